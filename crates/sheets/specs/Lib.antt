@@ -1,0 +1,5 @@
+pub mod Faults
+pub mod Progress
+pub mod Records
+pub mod Slips
+pub mod Words
