@@ -2,9 +2,9 @@
 //! same seed gives the same days, and a day does not depend on how many are made.
 //!
 //! Good and bad days are mixed, most of them small. Which sort of day a number gets is fixed, so that every edge below
-//! comes up with every seed; what stands around the edge is left to chance.
+//! comes up within 1,400 days with every seed; what stands around the edge is left to chance.
 
-use std::path::{Path, PathBuf};
+use std::path::PathBuf;
 use std::process::ExitCode;
 use std::{env, fs, io};
 
@@ -42,7 +42,7 @@ impl Order {
         let [seed, count, dir] = arguments.as_slice() else {
             return None;
         };
-        Some(Order { seed: seed.parse().ok()?, count: count.parse().ok()?, dir: Path::new(dir).to_path_buf() })
+        Some(Order { seed: seed.parse().ok()?, count: count.parse().ok()?, dir: dir.into() })
     }
 
     fn carry_out(&self) -> io::Result<()> {
@@ -294,7 +294,7 @@ fn wide_sheet(chance: &mut Chance) -> Vec<u32> {
     words
 }
 
-/// No more sheds or lanes would fit, so that a little damage makes too many.
+/// One shed or lane more would not fit, so that a little damage makes too many.
 fn crowded_sheet(chance: &mut Chance) -> Vec<u32> {
     let mut words = match chance.below(3) {
         0 => sheds(&lane_numbers(MOST_SHEDS, 2, chance), chance),

@@ -1,0 +1,3 @@
+// How the lanes of a shed share its store. Nothing here knows words, lots or rounds.
+pub mod card;
+pub mod make;

@@ -1,0 +1,58 @@
+ghost use mathlib.Core.Path.{_≡_};
+ghost use Prim.Native.Nat.{ℕ, _+_, _≤_, _<_};
+ghost use Rattle.std.specs.Options.{mapped};
+ghost use Rattle.std.specs.shelf.Lists.{sum};
+ghost use Rattle.sharing.specs.Cards.{terms, emptyTerms, withLane};
+use crate::card::Card;
+
+impl Card {
+    // The card of a shed without lanes; none for a shed above 7 or a cap above 4,095.
+    pub fn new(shed: u8, cap: u16) -> Option<Card>
+        ensures { λ r. ⌜ mapped terms r ≡ emptyTerms shed «cap» ⌝ }
+    {
+        if shed > 7 || cap > 4095 {
+            return None;
+        }
+        Some(Card {
+            shed,
+            cap,
+            lanes: 0,
+            capacity: [0; 8],
+            target: [0; 8],
+        })
+    }
+
+    // The sum of the targets.
+    pub fn targets(&self) -> u16
+        ensures { λ r. ⌜ r ≡ sum (terms (now (self .entry)) .targets) ⌝ }
+    {
+        let targets = &self.target[0..self.lanes];
+        let mut sum: u16 = 0;
+        for target in targets {
+            sum += *target;
+        }
+        sum
+    }
+
+    // The card with one lane more; none if it has eight, the capacity is above 4,095, the target is above the capacity
+    // or the targets would not fit the cap.
+    pub fn with_lane(&self, target: u16, capacity: u16) -> Option<Card>
+        ensures { λ r. ⌜ mapped terms r ≡ withLane (terms (now (self .entry))) target capacity ⌝ }
+    {
+        let at = self.lanes;
+        if at >= 8 || capacity > 4095 || target > capacity || target > self.cap - self.targets() {
+            return None;
+        }
+        let mut capacities = self.capacity;
+        let mut targets = self.target;
+        capacities[at] = capacity;
+        targets[at] = target;
+        Some(Card {
+            shed: self.shed,
+            cap: self.cap,
+            lanes: at + 1,
+            capacity: capacities,
+            target: targets,
+        })
+    }
+}
