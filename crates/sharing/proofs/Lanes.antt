@@ -9,16 +9,17 @@ use lib.ListN.{length, take, drop, set, getD, length-drop}
 use Rattle.std.specs.shelf.Lists.{sum}
 use Rattle.std.proofs.shelf.Lists.{getD-set-same, getD-set-other, getD-drop}
 use Rattle.std.proofs.shelf.Sums.{sumBy-set, sumBy-take-drop, sumBy-cons}
-use Rattle.std.proofs.shelf.Tests.{cases-eq}
+use Rattle.std.proofs.shelf.Tests.{cases-eq, cases-bool}
 use Rattle.std.specs.declared.option.Option.the-variants.{Some, None}
-use Rattle.sharing.specs.Cards.{Terms, unfit, withLane}
+use Rattle.sharing.specs.Cards.{Terms, unfit, moreTerms, withLane}
 
 -- what holds of every other place and of the value holds of every place
-pub at-set : (P : ℕ → ℕ → Type 0) (xs : List ℕ) (at v k : ℕ) → at < length xs → P at v → ((k : ℕ) → k ≢ at → P k (getD xs k 0)) → P k (getD (set xs at v) k 0)
-at-set P xs at v k h here others =
+pub at-set : {X : Type 0} (d : X) (P : ℕ → X → Type 0) (xs : List X) (at : ℕ) (v : X) (k : ℕ) → at < length xs → P at v → ((k : ℕ) → k ≢ at → P k (getD xs k d)) →
+    P k (getD (set xs at v) k d)
+at-set d P xs at v k h here others =
     elim (cases-eq k at) [
-      | inl e ↦ subst (λ j. P j (getD (set xs at v) j 0)) (sym e) (subst (P at) (sym (getD-set-same xs at v 0 h)) here)
-      | inr ne ↦ subst (P k) (sym (getD-set-other xs at k v 0 ne)) (others k ne)
+      | inl e ↦ subst (λ j. P j (getD (set xs at v) j d)) (sym e) (subst (P at) (sym (getD-set-same xs at v d h)) here)
+      | inr ne ↦ subst (P k) (sym (getD-set-other xs at k v d ne)) (others k ne)
     ]
 
 sum-zeros : (xs : List ℕ) → ((k : ℕ) → k < length xs → getD xs k 0 ≡ 0) → sum xs ≡ 0
@@ -32,7 +33,23 @@ sum-front xs n z =
     omega (arith, sumBy-take-drop (λ x. x) xs n, none)
 
 -- a lane that fits is added behind the others
-pub lane-added : (t : Terms) (target capacity : ℕ) → unfit t target capacity ≡ false →
-    withLane t target capacity ≡ Some (record { shed = t .shed; limit = t .limit; capacities = t .capacities ++ capacity ∷ []; targets = t .targets ++ target ∷ [] })
-lane-added t target capacity e =
-    ap (λ b. elim b [ true ↦ None | false ↦ Some (record { shed = t .shed; limit = t .limit; capacities = t .capacities ++ capacity ∷ []; targets = t .targets ++ target ∷ [] }) ]) e
+pub lane-added : (t : Terms) (target capacity : ℕ) → unfit t target capacity ≡ false → withLane t target capacity ≡ Some (moreTerms t target capacity)
+lane-added t target capacity e = ap (λ b. elim b [ true ↦ None | false ↦ Some (moreTerms t target capacity) ]) e
+
+pub lane-unfit : (t : Terms) (target capacity : ℕ) → unfit t target capacity ≡ true → withLane t target capacity ≡ None
+lane-unfit t target capacity e = ap (λ b. elim b [ true ↦ None | false ↦ Some (moreTerms t target capacity) ]) e
+
+-- what an answer says of the lane that was asked for
+pub lane-refused : (t : Terms) (target capacity : ℕ) → withLane t target capacity ≡ None → unfit t target capacity ≡ true
+lane-refused t target capacity e =
+    elim (cases-bool (unfit t target capacity)) [
+      | inl yes′ ↦ yes′
+      | inr no′ ↦ let taken = lane-added t target capacity no′ in cc
+    ]
+
+pub lane-taken : (t u : Terms) (target capacity : ℕ) → withLane t target capacity ≡ Some u → (unfit t target capacity ≡ false) × (u ≡ moreTerms t target capacity)
+lane-taken t u target capacity e =
+    elim (cases-bool (unfit t target capacity)) [
+      | inl yes′ ↦ let refused = lane-unfit t target capacity yes′ in (cc, cc)
+      | inr no′ ↦ let taken = lane-added t target capacity no′ in (no′, cc)
+    ]

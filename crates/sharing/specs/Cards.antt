@@ -24,14 +24,18 @@ terms c = record { shed = c .shed; limit = c .«cap»; capacities = take (c .lan
 abbrev pub emptyTerms : ℕ → ℕ → Option Terms
 emptyTerms shed limit = elim (ltb 7 shed || ltb 4095 limit) [ true ↦ None | false ↦ Some (record { shed = shed; limit = limit; capacities = []; targets = [] }) ]
 
--- may a lane not stand on the card: has it eight, is the capacity above 4,095, the target above the capacity, or are the targets above the cap?
+-- is a target above its capacity, or are the targets with it above the cap?
+abbrev pub overtargeted : Terms → ℕ → ℕ → Bool
+overtargeted t target capacity = ltb capacity target || ltb (t .limit) (sum (t .targets) + target)
+
+-- may a lane not stand on the card: has it eight, is the capacity above 4,095, or is the target too large?
 abbrev pub unfit : Terms → ℕ → ℕ → Bool
-unfit t target capacity = leb 8 (length (t .capacities)) || ltb 4095 capacity || ltb capacity target || ltb (t .limit) (sum (t .targets) + target)
+unfit t target capacity = leb 8 (length (t .capacities)) || ltb 4095 capacity || overtargeted t target capacity
 
 -- one lane more
+abbrev pub moreTerms : Terms → ℕ → ℕ → Terms
+moreTerms t target capacity = record { shed = t .shed; limit = t .limit; capacities = t .capacities ++ capacity ∷ []; targets = t .targets ++ target ∷ [] }
+
+-- one lane more, where it may stand on the card
 abbrev pub withLane : Terms → ℕ → ℕ → Option Terms
-withLane t target capacity =
-    elim (unfit t target capacity) [
-      | true ↦ None
-      | false ↦ Some (record { shed = t .shed; limit = t .limit; capacities = t .capacities ++ capacity ∷ []; targets = t .targets ++ target ∷ [] })
-    ]
+withLane t target capacity = elim (unfit t target capacity) [ true ↦ None | false ↦ Some (moreTerms t target capacity) ]

@@ -1,6 +1,6 @@
 ghost use mathlib.Core.Path.{_≡_};
 ghost use Prim.Native.Nat.{ℕ, _≤_, _<_};
-ghost use lib.ListN.{getD};
+ghost use lib.ListN.{length, getD};
 ghost use Rattle.std.specs.shelf.Lists.{sum};
 
 // What a sharing rule is asked about: one shed, its cap, and the capacity and target of each of its lanes, by their
@@ -12,6 +12,8 @@ pub struct Card {
     pub lanes: usize,
     pub capacity: [u16; 8],
     pub target: [u16; 8],
+    ghost eight_capacities: { length capacity ≡ 8 },
+    ghost eight_targets: { length target ≡ 8 },
     ghost shed_known: { shed < 8 },
     ghost few_lanes: { lanes ≤ 8 },
     ghost cap_small: { «cap» ≤ 4095 },

@@ -1,0 +1,3 @@
+// The book of a day, and the reading of a sheet into it.
+pub mod book;
+pub mod lane;
