@@ -5,7 +5,11 @@ use mathlib.Core.List.{List, [], _∷_, _++_, map}
 use native.Mathlib.Omega.{arith}
 use lib.ListN.{length, take, getD, set}
 use lib.Seq.{take-set-lt}
-use Rattle.std.proofs.shelf.Lists.{take-more-set, map-push, map-set, getD-map, getD-take, length-map, length-take}
+use Rattle.std.proofs.shelf.Lists.{take-more-set, map-push, map-set, getD-map, getD-take, length-map, length-take, length-set}
+use Rattle.sharing.specs.Cards.{terms}
+use Rattle.books.specs.declared.book.Book.{Book}
+use Rattle.books.specs.Lanes.{Entry, entry, laneAt, noLane}
+use Rattle.books.specs.Contents.{contents, laneOf, noEntry}
 
 module _ {X Y : Type 0} (f : X → Y) (xs : List X) where
   pub shown-push : (n : ℕ) (x : X) → n < length xs → map f (take (n + 1) (set xs n x)) ≡ map f (take n xs) ++ f x ∷ []
@@ -19,3 +23,18 @@ module _ {X Y : Type 0} (f : X → Y) (xs : List X) where
 
   pub shown-at : (n i : ℕ) (d : X) (e : Y) → i < n → n ≤ length xs → getD (map f (take n xs)) i e ≡ f (getD xs i d)
   shown-at n i d e h l = getD-map f (take n xs) i d e (simp length-take (omega arith)) ∙ ap f (getD-take n xs i d h)
+
+-- the counts of a book
+pub sheds-length : (b : Book) → length (contents b .sheds) ≡ b .sheds
+sheds-length b = shown-length terms (b .cards) (b .sheds) (omega (arith, b .«card_places», b .«few_sheds»))
+
+pub lanes-length : (b : Book) → length (contents b .lanes) ≡ b .«lane_count»
+lanes-length b = shown-length entry (b .lanes) (b .«lane_count») (omega (arith, b .«lane_places», b .«few_lanes»))
+
+-- a lane of the book
+pub lane-of : (b : Book) (l : ℕ) → l < b .«lane_count» → laneOf (contents b) l ≡ entry (laneAt (b .lanes) l)
+lane-of b l h = shown-at entry (b .lanes) (b .«lane_count») l noLane noEntry h (omega (arith, b .«lane_places», b .«few_lanes»))
+
+-- a write to a lane's entry adds no lane
+pub same-lanes : (b d : Book) (l : ℕ) (e : Entry) → contents d .lanes ≡ set (contents b .lanes) l e → d .«lane_count» ≡ b .«lane_count»
+same-lanes b d l e is = sym (lanes-length d) ∙ ap length is ∙ length-set (contents b .lanes) l e ∙ lanes-length b

@@ -1,6 +1,6 @@
 ghost use mathlib.Core.Path.{_≡_};
-ghost use Prim.Native.Nat.{_<_};
-ghost use Rattle.books.specs.Lanes.{blankLane, longerLane};
+ghost use Prim.Native.Nat.{_<_, _≤_};
+ghost use Rattle.books.specs.Lanes.{blankLane, longerLane, entry, has};
 
 // A lane of the book: where it stands, and the lots that it ranks.
 #[derive(Clone, Copy)]
@@ -37,5 +37,13 @@ impl Lane {
         let at = self.ranked;
         self.lots[at as usize] = lot;
         self.ranked = at + 1;
+    }
+
+    // Is the lot in its ranking?
+    pub(crate) fn ranks(&self, lot: u8) -> bool
+        requires { ⌜ now self .ranked ≤ 256 ⌝ }
+        ensures { λ r. ⌜ r ≡ has (entry (now (self .entry)) .ranking) lot ⌝ }
+    {
+        self.lots[0..self.ranked as usize].contains(&lot)
     }
 }

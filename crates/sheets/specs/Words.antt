@@ -1,6 +1,6 @@
 -- The layout of words. Bits 31 to 28 are the kind; a single field is in bits 11 to 0; of two, the first is in bits 23
 -- to 12; the other bits are zero.
-use Prim.Native.Nat.{ℕ, _/_, _%_, _^_}
+use Prim.Native.Nat.{ℕ, _/_, _%_, _^_, _≤_}
 use mathlib.Core.Bool.{Bool, true, false, _&&_}
 use lib.Dec.{eqb}
 use Rattle.std.specs.declared.option.Option.{Option}
@@ -50,6 +50,13 @@ bookWord w =
                 ]
           ]
     ]
+
+-- no field is above 4,095
+abbrev pub small : BookWord → Type 0
+small (Shed c) = c ≤ 4095
+small (Lane t q) = (t ≤ 4095) × (q ≤ 4095)
+small (Rank l) = l ≤ 4095
+small (Next i) = i ≤ 4095
 
 -- the same at a place of the sheet
 abbrev pub readBookWord : ℕ → ℕ → Result BookWord Fault

@@ -14,15 +14,15 @@ use Rattle.sharing.proofs.Lanes.{at-set, lane-refused, lane-taken}
 use Rattle.books.specs.declared.book.Book.{Book}
 use Rattle.books.specs.Lanes.{noLane, blankLane, entry, Ranks}
 use Rattle.books.specs.Contents.{Contents, contents, lastShed, lastTerms, noShed}
-use Rattle.books.proofs.Edits.{shown-push, shown-set, shown-length, shown-at}
+use Rattle.books.proofs.Edits.{shown-push, shown-set, shown-at, sheds-length}
 use Rattle.books.proofs.book.Book.add_lane.Needs as need
 
 -- the last shed of the contents is the last card
-last-shed : (b : Book) → b .sheds ≤ length (b .cards) → lastShed (contents b) ≡ b .sheds - 1
-last-shed b h = ap (λ n. n - 1) (shown-length terms (b .cards) (b .sheds) h)
+last-shed : (b : Book) → lastShed (contents b) ≡ b .sheds - 1
+last-shed b = ap (λ n. n - 1) (sheds-length b)
 
-last-terms : (b : Book) (d : Card) → 0 < b .sheds → b .sheds ≤ length (b .cards) → lastTerms (contents b) ≡ terms (getD (b .cards) (b .sheds - 1) d)
-last-terms b d some h = ap (λ n. getD (contents b .sheds) n noShed) (last-shed b h) ∙ shown-at terms (b .cards) (b .sheds) (b .sheds - 1) d noShed (omega arith) h
+last-terms : (b : Book) (d : Card) → 0 < b .sheds → lastTerms (contents b) ≡ terms (getD (b .cards) (b .sheds - 1) d)
+last-terms b d some = ap (λ n. getD (contents b .sheds) n noShed) (last-shed b) ∙ shown-at terms (b .cards) (b .sheds) (b .sheds - 1) d noShed (omega arith) (omega (arith, b .«card_places», b .«few_sheds»))
 
 -- a lane that has room and a capacity of its kind is refused only for its target
 refused-for-target : (t : Terms) (target capacity : ℕ) → length (t .capacities) < 8 → capacity ≤ 4095 → unfit t target capacity ≡ overtargeted t target capacity
@@ -32,7 +32,7 @@ pub returns-in-rest : need.returns-in-rest
 returns-in-rest c =
     let b = c .args .self .now in
     let card = getD (b .cards) (b .sheds - 1) (c .index-self-shed .result) in
-    let last = last-terms b (c .index-self-shed .result) (search needs) (search needs) in
+    let last = last-terms b (c .index-self-shed .result) (search needs) in
     let refused = lane-refused (terms card) (c .args .target) (c .args .capacity) (sym (c .with-lane .ensures) ∙ ap (mapped terms) (c .in-rest .is)) in
     let why = refused-for-target (terms card) (c .args .target) (c .args .capacity) (subst (λ t. length (t .capacities) < 8) last (c .pre .room)) (c .pre .small) in
     record {
@@ -44,7 +44,7 @@ pub ghost-self : need.ghost-self
 ghost-self c =
     let b = c .args .self .now in
     let blank : Ranks (c .new .result) = subst Ranks (sym (c .new .ensures)) (refl, omega arith, refl, refl) in
-    (search needs, (search needs, ((λ k. at-set noLane (λ j x. j < 32 → Ranks x) (b .lanes) (b .«lane_count») (c .new .result) k (search needs) (λ _. blank) (λ j _. b .rankings j)), tt)))
+    (search needs, (search needs, (search needs, (search needs, ((λ k. at-set noLane (λ j x. j < 32 → Ranks x) (b .lanes) (b .«lane_count») (c .new .result) k (search needs) (λ _. blank) (λ j _. b .rankings j)), tt)))))
 
 pub returns : need.returns
 returns c =
@@ -52,8 +52,8 @@ returns c =
     let card = getD (b .cards) (b .sheds - 1) (c .index-self-shed .result) in
     let t = c .args .target in
     let q = c .args .capacity in
-    let last = last-terms b (c .index-self-shed .result) (search needs) (search needs) in
-    let at = last-shed b (search needs) in
+    let last = last-terms b (c .index-self-shed .result) (search needs) in
+    let at = last-shed b in
     let taken = lane-taken (terms card) (terms (c .in-Some .wider)) t q (sym (c .with-lane .ensures) ∙ ap (mapped terms) (c .in-Some .is)) in
     let why = refused-for-target (terms card) t q (subst (λ t. length (t .capacities) < 8) last (c .pre .room)) (c .pre .small) in
     let place : length (terms card .capacities) ≡ card .lanes = simp length-take (omega (arith, card .«eight_capacities», card .«few_lanes»)) in

@@ -12,7 +12,7 @@ use Rattle.std.specs.declared.option.Option.the-variants.{Some, None}
 use Rattle.sharing.specs.declared.card.Card.{Card}
 use Rattle.sharing.specs.Cards.{Terms, terms, emptyTerms}
 use Rattle.books.specs.Contents.{Contents, contents}
-use Rattle.books.proofs.Edits.{shown-push, shown-length}
+use Rattle.books.proofs.Edits.{shown-push, sheds-length}
 use Rattle.books.proofs.book.Book.add_shed.Needs as need
 
 -- the card that was made has no lanes
@@ -29,7 +29,7 @@ returns c =
     let b = c .args .self .now in
     let n = b .sheds in
     let card = fresh (c .new .result) (c .unwrap .result) n (c .args .cap) (search needs) (search needs) (c .unwrap .ensures) (c .new .ensures) in
-    let size = shown-length terms (b .cards) n (search needs) in
+    let size = sheds-length b in
     ap {B = Contents} (λ v. record { sheds = v; lanes = contents b .lanes })
     (shown-push terms (b .cards) n (c .unwrap .result) (search needs)
     ∙ ap (λ t. contents b .sheds ++ t ∷ []) card

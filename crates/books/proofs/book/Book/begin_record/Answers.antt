@@ -4,7 +4,7 @@ use borrow.Author.Needs.{needs}
 use lib.ListN.{take, set}
 use Rattle.books.specs.Lanes.{entry, noLane}
 use Rattle.books.specs.Contents.{Contents, contents, noEntry, recordedEntry}
-use Rattle.books.proofs.Edits.{shown-set, shown-at}
+use Rattle.books.proofs.Edits.{shown-set, lane-of}
 use Rattle.books.proofs.book.Book.begin_record.Needs as need
 
 pub returns : need.returns
@@ -12,5 +12,5 @@ returns c =
     let b = c .args .self .now in
     let l = c .args .lane in
     let n = b .«lane_count» in
-    let was = shown-at entry (b .lanes) n l noLane noEntry (search needs) (search needs) in
+    let was = lane-of b l (search needs) in
     ap {B = Contents} (λ v. record { sheds = contents b .sheds; lanes = v }) (shown-set entry (b .lanes) n l _ (search needs) ∙ ap (λ e. set (map entry (take n (b .lanes))) l (recordedEntry e)) (sym was))

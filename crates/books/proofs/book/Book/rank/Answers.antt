@@ -11,7 +11,7 @@ use Rattle.books.specs.declared.lane.Lane.{Lane}
 use Rattle.books.specs.Lanes.{entry, noLane, laneAt, has, distinct, allBelow, longerLane, Ranks}
 use Rattle.books.specs.Contents.{Contents, contents, laneOf, noEntry, rankedEntry}
 use Rattle.books.proofs.Distinct.{distinct-room, distinct-push, below-push}
-use Rattle.books.proofs.Edits.{shown-set, shown-at}
+use Rattle.books.proofs.Edits.{shown-set, lane-of}
 use Rattle.books.proofs.book.Book.rank.Needs as need
 
 -- a lot that is not ranked yet finds room, since a ranking names lots below 256, each once
@@ -35,17 +35,17 @@ pub push-requires : need.push-requires
 push-requires c κs =
     let b = c .args .self .now in
     let l = c .args .lane in
-    let was = shown-at entry (b .lanes) (b .«lane_count») l noLane noEntry (search needs) (search needs) in
+    let was = lane-of b l (search needs) in
     room (laneAt (b .lanes) l) (c .args .lot) (b .rankings l (search needs)) (search needs) (subst (λ e. has (e .ranking) (c .args .lot) ≡ false) was (c .pre .fresh))
 
 pub ghost-self : need.ghost-self
 ghost-self c =
     let b = c .args .self .now in
     let l = c .args .lane in
-    let was = shown-at entry (b .lanes) (b .«lane_count») l noLane noEntry (search needs) (search needs) in
+    let was = lane-of b l (search needs) in
     let ranks = ranks-more (laneAt (b .lanes) l) (c .args .lot) (b .rankings l (search needs)) (search needs) (subst (λ e. has (e .ranking) (c .args .lot) ≡ false) was (c .pre .fresh)) in
     let here : Ranks (c .push .last .self) = subst Ranks (sym (c .push .ensures)) ranks in
-    (search needs, (search needs, ((λ k. at-set noLane (λ j x. j < 32 → Ranks x) (b .lanes) l (c .push .last .self) k (search needs) (λ _. here) (λ j _. b .rankings j)), tt)))
+    (search needs, (search needs, (search needs, (search needs, ((λ k. at-set noLane (λ j x. j < 32 → Ranks x) (b .lanes) l (c .push .last .self) k (search needs) (λ _. here) (λ j _. b .rankings j)), tt)))))
 
 pub returns : need.returns
 returns c =
@@ -53,7 +53,7 @@ returns c =
     let l = c .args .lane in
     let n = b .«lane_count» in
     let lane = laneAt (b .lanes) l in
-    let was = shown-at entry (b .lanes) n l noLane noEntry (search needs) (search needs) in
+    let was = lane-of b l (search needs) in
     let ranks = b .rankings l (search needs) in
     let here = room lane (c .args .lot) ranks (search needs) (subst (λ e. has (e .ranking) (c .args .lot) ≡ false) was (c .pre .fresh)) in
     let long = longer lane (c .args .lot) ranks here in
