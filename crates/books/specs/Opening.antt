@@ -79,19 +79,43 @@ noted r (Next lot) =
           ]
     ]
 
--- one word: the word reader judges it first, then the record reader, then the book
+-- one judge after the other: the first refusal stands
+abbrev pub before : {A B E : Type 0} → Result A E → Result B E → Result B E
+before (Ok a) t = t
+before (Err e) t = Err e
+
+-- a word that is not strange: the record reader judges it first, then the book
+abbrev pub judge : Reading → Option BookWord → Result Reading Refusal
+judge r None = Err Strange
+judge r (Some b) = before (admits (progressOf r) b) (noted r b)
+
+-- one word of the sheet
 abbrev pub taken : Reading → ℕ → Result Reading Refusal
-taken r w =
-    elim (bookWord w) [
-      | None ↦ Err Strange
-      | Some b ↦
-          elim (admits (progressOf r) b) [ Err x ↦ Err x | Ok p ↦ noted r b ]
-    ]
+taken r w = judge r (bookWord w)
 
 -- the words of a sheet in order, from a place on; the first refused word is told
 abbrev pub walk : Reading → ℕ → List ℕ → Result Reading Fault
 walk r place [] = Ok r
 walk r place (w ∷ ws) = elim (taken r w) [ Err x ↦ Err (fault x place) | Ok s ↦ walk s (suc place) ws ]
+
+-- what a sheet says, or its refusal
+abbrev pub opening : List ℕ → Result Contents Fault
+opening ws = elim (walk unread 0 ws) [ Err f ↦ Err f | Ok r ↦ Ok (r .book) ]
+
+-- what a book that was read says
+abbrev pub said : Result Book Fault → Result Contents Fault
+said (Ok b) = Ok (contents b)
+said (Err f) = Err f
+
+-- what opening a sheet answers
+abbrev pub answered : Result Contents Fault → Result (Unit {0}) Fault
+answered (Ok c) = Ok tt
+answered (Err f) = Err f
+
+-- what the book says afterwards: what the sheet says, and nothing if it is refused
+abbrev pub left : Result Contents Fault → Contents
+left (Ok c) = c
+left (Err f) = nothing
 
 -- what a call answers and leaves, where the definition gives a reading or a refusal
 abbrev pub Outcome : {E : Type 0} → Result Reading E → Result (Unit {0}) E → Reading → Type 0

@@ -14,7 +14,7 @@ use Rattle.sheets.specs.declared.fault.Fault.{Fault}
 use Rattle.sheets.specs.declared.progress.Progress.{Progress}
 use Rattle.sheets.specs.declared.word.BookWord.{BookWord}
 use Rattle.sheets.specs.declared.word.BookWord.the-variants.{Shed, Lane, Rank, Next}
-use Rattle.sheets.specs.Faults.{fault}
+use Rattle.sheets.specs.Faults.{fault, located}
 use Rattle.sheets.specs.Words.{bookWord}
 
 -- before the first word
@@ -62,7 +62,7 @@ abbrev pub judged : Progress → ℕ → ℕ → Result Progress Fault
 judged p w place =
     elim (bookWord w) [
       | None ↦ Err (fault Strange place)
-      | Some b ↦ elim (admits p b) [ Ok q ↦ Ok q | Err r ↦ Err (fault r place) ]
+      | Some b ↦ located place (admits p b)
     ]
 
 -- a word that goes on with the record before it and is not refused
@@ -84,3 +84,17 @@ runLength p (w ∷ ws) = elim (goesOn p w) [ None ↦ 0 | Some q ↦ suc (runLen
 abbrev pub runProgress : Progress → List ℕ → Progress
 runProgress p [] = p
 runProgress p (w ∷ ws) = elim (goesOn p w) [ None ↦ p | Some q ↦ runProgress q ws ]
+
+-- how far the sheet has come behind a word; none where the word is refused
+abbrev pub accepts : Progress → ℕ → Option Progress
+accepts p w = elim (bookWord w) [ None ↦ None | Some b ↦ okPart (admits p b) ]
+
+-- is each of the words accepted in turn?
+abbrev pub passes : Progress → List ℕ → Bool
+passes p [] = true
+passes p (w ∷ ws) = elim (accepts p w) [ None ↦ false | Some q ↦ passes q ws ]
+
+-- how far the sheet has come behind words that pass
+abbrev pub along : Progress → List ℕ → Progress
+along p [] = p
+along p (w ∷ ws) = elim (accepts p w) [ None ↦ p | Some q ↦ along q ws ]

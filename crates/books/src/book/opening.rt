@@ -1,13 +1,19 @@
 ghost use mathlib.Core.Path.{_≡_};
 ghost use mathlib.Core.Bool.{true};
-ghost use Prim.Native.Nat.{ℕ, _≤_, _<_};
+ghost use mathlib.Core.List.{_∷_, []};
+ghost use Prim.Native.Nat.{ℕ, _+_, _^_, _≤_, _<_};
+ghost use lib.ListN.{length};
+ghost use Rattle.std.specs.Options.{isSome};
 ghost use Rattle.std.specs.Results.{isOk};
 ghost use Rattle.std.specs.declared.option.Option.the-variants.{Some};
-ghost use Rattle.sheets.specs.Progress.{admits};
+ghost use Rattle.sheets.specs.Progress.{admits, accepts, passes};
 ghost use Rattle.sheets.specs.Words.{small};
-ghost use Rattle.books.specs.Opening.{reading, unread, progressOf, noted, Outcome};
+ghost use Rattle.books.specs.Opening.{reading, unread, progressOf, noted, walk, opening, said, Outcome};
 use crate::book::Book;
+use sheets::fault::Fault;
 use sheets::fault::Refusal;
+use sheets::reader::Part;
+use sheets::reader::Reader;
 use sheets::word::BookWord;
 
 // A sheet that is being read: the book so far, and the lane whose ranking is being read.
@@ -81,5 +87,41 @@ impl Opening {
         }
         self.book.rank(lane, lot);
         Ok(())
+    }
+
+    // One word of the sheet at its place, which the record reader has accepted.
+    fn read_word(&mut self, word: u32, place: usize) -> Result<(), Fault>
+        requires { ⌜ isSome (accepts (progressOf (reading (now self .book) (now self .ranking))) word) ≡ true ⌝ }
+        ensures { λ r. ⌜ Outcome (walk (reading (now (self .entry) .book) (now (self .entry) .ranking)) place (word ∷ [])) r (reading (now (self .exit) .book) (now (self .exit) .ranking)) ⌝ }
+    {
+        let word = BookWord::read(word, place)?;
+        match self.note(word) {
+            Ok(()) => Ok(()),
+            Err(refusal) => Err(Fault::new(refusal, place)),
+        }
+    }
+
+    // The words of a record in order.
+    fn read_record(&mut self, part: Part<'_>) -> Result<(), Fault>
+        requires passing { ⌜ passes (progressOf (reading (now self .book) (now self .ranking))) (now (part .words)) ≡ true ⌝ }
+        requires places { ⌜ part .place + length (now (part .words)) < 2 ^ 64 ⌝ }
+        ensures { λ r. ⌜ Outcome (walk (reading (now (self .entry) .book) (now (self .entry) .ranking)) (part .entry .place) (now (part .entry .words))) r (reading (now (self .exit) .book) (now (self .exit) .ranking)) ⌝ }
+    {
+        for (i, word) in part.words.iter().enumerate() {
+            self.read_word(*word, part.place + i)?;
+        }
+        Ok(())
+    }
+
+    // A whole sheet.
+    pub(super) fn read(sheet: &[u32]) -> Result<Book, Fault>
+        ensures { λ r. ⌜ said r ≡ opening (now (sheet .entry)) ⌝ }
+    {
+        let mut opening = Opening::new();
+        let mut reader = Reader::new(sheet);
+        while let Some(part) = reader.next_record()? {
+            opening.read_record(part)?;
+        }
+        Ok(opening.book)
     }
 }
