@@ -5,7 +5,7 @@ use mathlib.Core.List.{List, [], _∷_, _++_, map}
 use native.Mathlib.Omega.{arith}
 use lib.ListN.{length, take, getD, set}
 use lib.Seq.{take-set-lt}
-use Rattle.std.proofs.shelf.Lists.{take-more-set, map-push, map-set, getD-map, getD-take, length-map, length-take, length-set}
+use Rattle.std.proofs.shelf.Lists.{take-more-set, map-push, map-set, getD-map, getD-take, length-map, length-take, length-take-le, length-set}
 use Rattle.sharing.specs.Cards.{terms}
 use Rattle.books.specs.declared.book.Book.{Book}
 use Rattle.books.specs.Lanes.{Entry, entry, laneAt, noLane}
@@ -38,3 +38,9 @@ lane-of b l h = shown-at entry (b .lanes) (b .«lane_count») l noLane noEntry h
 -- a write to a lane's entry adds no lane
 pub same-lanes : (b d : Book) (l : ℕ) (e : Entry) → contents d .lanes ≡ set (contents b .lanes) l e → d .«lane_count» ≡ b .«lane_count»
 same-lanes b d l e is = sym (lanes-length d) ∙ ap length is ∙ length-set (contents b .lanes) l e ∙ lanes-length b
+
+-- how many lots a lane of the book ranks
+pub ranked-length : (b : Book) (l : ℕ) → l < b .«lane_count» → length (laneOf (contents b) l .ranking) ≡ laneAt (b .lanes) l .ranked
+ranked-length b l h =
+    let ranks = b .rankings l (omega (arith, b .«few_lanes»)) in
+    ap (λ e. length (e .ranking)) (lane-of b l h) ∙ length-take-le (laneAt (b .lanes) l .ranked) (laneAt (b .lanes) l .lots) (omega (arith, ranks .0, ranks .1))

@@ -28,6 +28,10 @@ noEntry = record { shed = 0; place = 0; recorded = false; ranking = [] }
 abbrev pub laneOf : Contents → ℕ → Entry
 laneOf c l = getD (c .lanes) l noEntry
 
+-- the lots that a lane ranks; none if it is not in the book
+abbrev pub rankingOf : Contents → ℕ → List ℕ
+rankingOf c l = laneOf c l .ranking
+
 -- the last shed and its number
 abbrev pub lastShed : Contents → ℕ
 lastShed c = length (c .sheds) - 1

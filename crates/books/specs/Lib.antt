@@ -1,3 +1,4 @@
 pub mod Contents
 pub mod Lanes
 pub mod Opening
+pub mod Totals

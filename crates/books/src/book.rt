@@ -7,6 +7,7 @@ use sharing::card::Card;
 
 pub mod edits;
 pub mod looks;
+pub mod open;
 mod opening;
 
 // The sheds with their cards, and the lanes with their rankings. Behind the counts nothing counts.

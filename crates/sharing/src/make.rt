@@ -1,9 +1,22 @@
 ghost use mathlib.Core.Path.{_≡_};
-ghost use Prim.Native.Nat.{ℕ, _+_, _≤_, _<_};
+ghost use Prim.Native.Nat.{ℕ, _+_, _*_, _≤_, _<_};
+ghost use lib.ListN.{take};
 ghost use Rattle.std.specs.Options.{mapped};
 ghost use Rattle.std.specs.shelf.Lists.{sum};
 ghost use Rattle.sharing.specs.Cards.{terms, emptyTerms, withLane};
 use crate::card::Card;
+
+// The sum of the first n numbers of a row.
+fn front_sum(row: &[u16; 8], n: usize) -> u32
+    requires { ⌜ n ≤ 8 ⌝ }
+    ensures { λ r. ⌜ r ≡ sum (take n (now (row .entry))) ⌝ }
+{
+    let mut sum: u32 = 0;
+    for x in &row[0..n] {
+        sum += *x as u32;
+    }
+    sum
+}
 
 impl Card {
     // The card of a shed without lanes; none for a shed above 7 or a cap above 4,095.
@@ -23,15 +36,19 @@ impl Card {
     }
 
     // The sum of the targets.
-    pub fn targets(&self) -> u16
-        ensures { λ r. ⌜ r ≡ sum (terms (now (self .entry)) .targets) ⌝ }
+    pub fn targets(&self) -> u32
+        ensures value { λ r. ⌜ r ≡ sum (terms (now (self .entry)) .targets) ⌝ }
+        ensures bound { λ r. ⌜ r ≤ 4095 ⌝ }
     {
-        let targets = &self.target[0..self.lanes];
-        let mut sum: u16 = 0;
-        for target in targets {
-            sum += *target;
-        }
-        sum
+        front_sum(&self.target, self.lanes)
+    }
+
+    // The sum of the capacities.
+    pub fn capacities(&self) -> u32
+        ensures value { λ r. ⌜ r ≡ sum (terms (now (self .entry)) .capacities) ⌝ }
+        ensures bound { λ r. ⌜ r ≤ 8 * 4095 ⌝ }
+    {
+        front_sum(&self.capacity, self.lanes)
     }
 
     // The card with one lane more; none if it has eight, the capacity is above 4,095, the target is above the capacity
@@ -40,7 +57,11 @@ impl Card {
         ensures { λ r. ⌜ mapped terms r ≡ withLane (terms (now (self .entry))) target capacity ⌝ }
     {
         let at = self.lanes;
-        if at >= 8 || capacity > 4095 || target > capacity || target > self.cap - self.targets() {
+        if at >= 8
+            || capacity > 4095
+            || target > capacity
+            || self.targets() + target as u32 > self.cap as u32
+        {
             return None;
         }
         let mut capacities = self.capacity;

@@ -2,8 +2,14 @@ ghost use mathlib.Core.Path.{_≡_};
 ghost use Prim.Native.Nat.{ℕ, _<_};
 ghost use lib.ListN.{length};
 ghost use Rattle.books.specs.Lanes.{has};
-ghost use Rattle.books.specs.Contents.{contents, laneOf};
+ghost use Rattle.std.specs.Finite.{nth};
+ghost use Rattle.std.specs.Options.{mapped};
+ghost use Rattle.sharing.specs.Cards.{terms};
+ghost use Rattle.books.specs.Contents.{contents, laneOf, rankingOf};
+ghost use Rattle.books.specs.Totals.{totalsOf, shedTotals, lotsRanked};
 use crate::book::Book;
+use crate::totals::Totals;
+use sharing::card::Card;
 
 impl Book {
     pub fn shed_count(&self) -> usize
@@ -16,6 +22,78 @@ impl Book {
         ensures { λ r. ⌜ r ≡ length (contents (now (self .entry)) .lanes) ⌝ }
     {
         self.lane_count
+    }
+
+    // The card of a shed; none if it is not in the book.
+    pub fn card(&self, shed: usize) -> Option<Card>
+        ensures { λ r. ⌜ mapped terms r ≡ nth (contents (now (self .entry)) .sheds) shed ⌝ }
+    {
+        if shed < self.sheds {
+            Some(self.cards[shed])
+        } else {
+            None
+        }
+    }
+
+    // How many lots a lane ranks; none if it is not in the book.
+    pub fn ranked(&self, lane: usize) -> Option<usize>
+        ensures { λ r. ⌜ r ≡ mapped (λ e. length (e .ranking)) (nth (contents (now (self .entry)) .lanes) lane) ⌝ }
+    {
+        if lane < self.lane_count {
+            Some(self.lanes[lane].ranked as usize)
+        } else {
+            None
+        }
+    }
+
+    // The lot at a place of a lane's ranking, the best at 0; none behind the last, and if the lane is not in the book.
+    pub fn lot(&self, lane: usize, place: usize) -> Option<u8>
+        ensures { λ r. ⌜ r ≡ nth (rankingOf (contents (now (self .entry))) lane) place ⌝ }
+    {
+        if lane < self.lane_count && place < self.lanes[lane].ranked as usize {
+            Some(self.lanes[lane].lots[place])
+        } else {
+            None
+        }
+    }
+
+    // What the book has altogether.
+    pub fn totals(&self) -> Totals
+        ensures { λ r. ⌜ r ≡ totalsOf (contents (now (self .entry))) ⌝ }
+    {
+        let (caps, targets, capacities) = self.shed_totals();
+        Totals {
+            sheds: self.sheds,
+            lanes: self.lane_count,
+            caps,
+            targets,
+            capacities,
+            ranked: self.lots_ranked(),
+        }
+    }
+
+    // The sums of the caps, the targets and the capacities.
+    fn shed_totals(&self) -> (u32, u32, u32)
+        ensures { λ r. ⌜ r ≡ shedTotals (contents (now (self .entry)) .sheds) ⌝ }
+    {
+        let (mut caps, mut targets, mut capacities) = (0, 0, 0);
+        for shed in 0..self.sheds {
+            let card = self.cards[shed];
+            caps += card.cap as u32;
+            targets += card.targets();
+            capacities += card.capacities();
+        }
+        (caps, targets, capacities)
+    }
+
+    fn lots_ranked(&self) -> u32
+        ensures { λ r. ⌜ r ≡ lotsRanked (contents (now (self .entry)) .lanes) ⌝ }
+    {
+        let mut ranked = 0;
+        for lane in 0..self.lane_count {
+            ranked += self.lanes[lane].ranked as u32;
+        }
+        ranked
     }
 }
 
