@@ -75,7 +75,7 @@ pub distinct-room : (n i : ℕ) (xs : List ℕ) → allBelow n xs ≡ true → d
 distinct-room n i xs b d below new = let short = distinct-short n (i ∷ xs) (grind (arith, tells)) (grind (arith, tells)) in omega arith
 
 -- one more at the end
-has-push : (xs : List ℕ) (i j : ℕ) → has (xs ++ i ∷ []) j ≡ (has xs j || eqb i j)
+pub has-push : (xs : List ℕ) (i j : ℕ) → has (xs ++ i ∷ []) j ≡ (has xs j || eqb i j)
 has-push [] i j = grind (arith, tells)
 has-push (x ∷ xs) i j = let t = has-push xs i j in grind (arith, tells)
 

@@ -1,3 +1,4 @@
 pub mod Distinct
 pub mod Edits
+pub mod Faults
 pub mod Walks

@@ -46,7 +46,7 @@ pub outcome-accepted : {E : Type 0} (t : Result Reading E) (s : Reading) → t �
 outcome-accepted t s e = subst (λ u. Outcome u (Ok tt) s) (sym e) (refl, refl)
 
 -- nested tests that came out accepted
-one-test : {A E : Type 0} (b : Bool) (e : E) (x s : A) → _≡_ {A = Result A E} (elim b [ true ↦ Err e | false ↦ Ok x ]) (Ok s) → s ≡ x
+pub one-test : {A E : Type 0} (b : Bool) (e : E) (x s : A) → _≡_ {A = Result A E} (elim b [ true ↦ Err e | false ↦ Ok x ]) (Ok s) → s ≡ x
 one-test true e x s h = cc
 one-test false e x s h = cc
 
@@ -54,34 +54,39 @@ other-test : {A E : Type 0} (b : Bool) (e : E) (x s : A) → _≡_ {A = Result A
 other-test true e x s h = cc
 other-test false e x s h = cc
 
-two-tests : {A E : Type 0} (b c : Bool) (e f : E) (x s : A) → _≡_ {A = Result A E} (elim b [ true ↦ Err e | false ↦ elim c [ true ↦ Err f | false ↦ Ok x ] ]) (Ok s) → s ≡ x
+pub two-tests : {A E : Type 0} (b c : Bool) (e f : E) (x s : A) → _≡_ {A = Result A E} (elim b [ true ↦ Err e | false ↦ elim c [ true ↦ Err f | false ↦ Ok x ] ]) (Ok s) → s ≡ x
 two-tests true c e f x s h = cc
 two-tests false true e f x s h = cc
 two-tests false false e f x s h = cc
 
+-- the last shed, behind one shed or one lane more
+pub last-of-shed : (c : Contents) (limit : ℕ) → lastTerms (withShed c limit) ≡ record { shed = length (c .sheds); limit = limit; capacities = []; targets = [] }
+last-of-shed c limit = getD-push (c .sheds) _ noShed (lastShed (withShed c limit)) (omega (arith, length-push (c .sheds) (record { shed = length (c .sheds); limit = limit; capacities = []; targets = [] })))
+
+pub last-of-lane : (c : Contents) (target capacity : ℕ) → 0 < length (c .sheds) → lastTerms (withLane c target capacity) ≡ moreTerms (lastTerms c) target capacity
+last-of-lane c target capacity some =
+    let wider = moreTerms (lastTerms c) target capacity in
+    ap (λ n. getD (withLane c target capacity .sheds) (n - 1) noShed) (length-set (c .sheds) (lastShed c) wider) ∙ getD-set-same (c .sheds) (lastShed c) wider noShed (omega arith)
+
 -- the record reader and the book keep step: what the reader knows is what the book says
 module _ (c : Contents) (l : Option ℕ) where
   shed-progress : (limit : ℕ) → progressOf (record { book = withShed c limit; ranking = l }) ≡ record { sheds = length (c .sheds) + 1; lanes = length (c .lanes); «lanes_here» = 0; ranking = isSome l }
-  shed-progress limit =
-      let more : length (withShed c limit .sheds) ≡ length (c .sheds) + 1 = length-push (c .sheds) _ in
-      let last : lastTerms (withShed c limit) ≡ record { shed = length (c .sheds); limit = limit; capacities = []; targets = [] } = getD-push (c .sheds) _ noShed (lastShed (withShed c limit)) (omega (arith, more)) in
-      λ i. record { sheds = more i; lanes = length (c .lanes); «lanes_here» = ap (λ t. length (t .capacities)) last i; ranking = isSome l }
+  shed-progress limit = λ i. record {
+    sheds = length-push (c .sheds) (record { shed = length (c .sheds); limit = limit; capacities = []; targets = [] }) i;
+    lanes = length (c .lanes);
+    «lanes_here» = ap (λ t. length (t .capacities)) (last-of-shed c limit) i;
+    ranking = isSome l;
+  }
 
   lane-progress : (target capacity : ℕ) → 0 < length (c .sheds) →
       progressOf (record { book = withLane c target capacity; ranking = l }) ≡
       record { sheds = length (c .sheds); lanes = length (c .lanes) + 1; «lanes_here» = length (lastTerms c .capacities) + 1; ranking = isSome l }
-  lane-progress target capacity some =
-      let wider = moreTerms (lastTerms c) target capacity in
-      let same : length (withLane c target capacity .sheds) ≡ length (c .sheds) = length-set (c .sheds) (lastShed c) wider in
-      let last : lastTerms (withLane c target capacity) ≡ wider =
-      ap (λ n. getD (withLane c target capacity .sheds) (n - 1) noShed) same ∙ getD-set-same (c .sheds) (lastShed c) wider noShed (omega arith)
-      in
-      λ i. record {
-        sheds = same i;
-        lanes = length-push (c .lanes) (record { shed = lastShed c; place = length (lastTerms c .capacities); recorded = false; ranking = [] }) i;
-        «lanes_here» = (ap (λ t. length (t .capacities)) last ∙ length-push (lastTerms c .capacities) capacity) i;
-        ranking = isSome l;
-      }
+  lane-progress target capacity some = λ i. record {
+    sheds = length-set (c .sheds) (lastShed c) (moreTerms (lastTerms c) target capacity) i;
+    lanes = length-push (c .lanes) (record { shed = lastShed c; place = length (lastTerms c .capacities); recorded = false; ranking = [] }) i;
+    «lanes_here» = (ap (λ t. length (t .capacities)) (last-of-lane c target capacity some) ∙ length-push (lastTerms c .capacities) capacity) i;
+    ranking = isSome l;
+  }
 
   entry-progress : (n : ℕ) (e : Entry) → progressOf (record { book = record { sheds = c .sheds; lanes = set (c .lanes) n e }; ranking = l }) ≡ progressOf (record { book = c; ranking = l })
   entry-progress n e = λ i. record { sheds = length (c .sheds); lanes = length-set (c .lanes) n e i; «lanes_here» = length (lastTerms c .capacities); ranking = isSome l }

@@ -1,4 +1,5 @@
 pub mod Contents
+pub mod Faulty
 pub mod Lanes
 pub mod Opening
 pub mod Totals
