@@ -1,7 +1,8 @@
 ghost use mathlib.Core.Path.{_≡_};
 ghost use Prim.Native.Nat.{ℕ, _+_, _*_, _/_, _≤_, _<_};
+ghost use mathlib.Core.List.{List};
 ghost use lib.ListN.{length, take};
-ghost use Rattle.days.specs.Input.{wordAt, wordsOf, broken, bytesBehind};
+ghost use Rattle.days.specs.Input.{wordAt, wordsOf, broken, dayOf, bytesBehind};
 
 // The bytes of the longest day: the number of book words, 8,264 book words and 256 slips of 13 words.
 pub const MOST_BYTES: usize = 46_372;
@@ -42,8 +43,13 @@ pub(crate) fn fill(bytes: &[u8], words: &mut [u32; 11_593]) -> usize
 // have, else so many that a day that is too long shows.
 pub fn bytes_behind(head: &[u8]) -> usize
     ensures count { λ r. ⌜ r ≡ bytesBehind (now (head .entry)) ⌝ }
+    ensures enough { λ r. ⌜ ((input : List ℕ) → take 4 input ≡ now (head .entry) → dayOf (take (4 + r) input) ≡ dayOf input) ⌝ }
 {
-    if head.len() < 4 || word_at(head, 0) as usize >= MOST_WORDS {
+    if head.len() < 4 {
+        return 0;
+    }
+    let book_words = word_at(head, 0) as usize;
+    if book_words >= MOST_WORDS {
         return 0;
     }
     MOST_BYTES + 1 - 4

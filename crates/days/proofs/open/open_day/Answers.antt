@@ -7,7 +7,7 @@ use Rattle.std.specs.declared.result.Result.the-variants.{Ok, Err}
 use Rattle.sheets.specs.Faults.{fault}
 use Rattle.books.specs.Opening.{opening, answered, left}
 use Rattle.days.specs.Input.{broken, inDay, slipWords, dayBook}
-use Rattle.days.proofs.Days.{behind, day-ragged, day-whole, book-part, slips-length, book-accepted, book-refused, whole-words}
+use Rattle.days.proofs.Days.{Filled, behind, day-ragged, day-whole, book-part, slips-length, book-accepted, book-refused, whole-words}
 use Rattle.days.proofs.open.open_day.Needs as need
 
 pub returns-then-book-words-n : need.returns-then-book-words-n
@@ -17,9 +17,14 @@ returns-then-book-words-n c =
     let n = c .fill-n .result in
     let m = c .word-at-book-words .result in
     let whole : broken bs ≡ false = sym (c .if-is-broken .ensures tt) in
-    let some : 1 ≤ n = omega (arith, c .fill-n .ensures .count, whole-words bs whole .0) in
-    let room : n ≤ length ws = omega (arith, c .fill-n .ensures .count, whole-words bs whole .1, c .fill-n .array-long) in
-    let ragged = day-ragged bs ws n m whole some (c .fill-n .ensures .count) room (c .fill-n .ensures .words) (c .word-at-book-words .ensures) (c .if-book-words-n .taken) in
+    let filled : Filled bs ws n m = record {
+      whole = whole;
+      count = c .fill-n .ensures .count;
+      words = c .fill-n .ensures .words;
+      room = omega (arith, c .fill-n .ensures .count, whole-words bs whole .1, c .fill-n .array-long);
+      first = c .word-at-book-words .ensures;
+    } in
+    let ragged = day-ragged bs ws n m filled (c .if-book-words-n .taken) in
     record { answer = ap Err (c .new-then-book-words-n .ensures) ∙ sym (ap slipWords ragged); book = c .new .ensures ∙ sym (ap dayBook ragged) }
 
 pub returns-in-Ok : need.returns-in-Ok
@@ -29,11 +34,16 @@ returns-in-Ok c =
     let n = c .fill-n .result in
     let m = c .word-at-book-words .result in
     let whole : broken bs ≡ false = sym (c .if-is-broken .ensures tt) in
-    let some : 1 ≤ n = omega (arith, c .fill-n .ensures .count, whole-words bs whole .0) in
-    let room : n ≤ length ws = omega (arith, c .fill-n .ensures .count, whole-words bs whole .1, c .fill-n .array-long) in
-    let day = day-whole bs ws n m whole some (c .fill-n .ensures .count) room (c .fill-n .ensures .words) (c .word-at-book-words .ensures) (c .if-book-words-n .left) in
-    let part = book-part bs ws n m whole some (c .fill-n .ensures .count) room (c .fill-n .ensures .words) (c .word-at-book-words .ensures) (c .if-book-words-n .left) in
-    let slips = slips-length bs ws n m whole some (c .fill-n .ensures .count) room (c .fill-n .ensures .words) (c .word-at-book-words .ensures) in
+    let filled : Filled bs ws n m = record {
+      whole = whole;
+      count = c .fill-n .ensures .count;
+      words = c .fill-n .ensures .words;
+      room = omega (arith, c .fill-n .ensures .count, whole-words bs whole .1, c .fill-n .array-long);
+      first = c .word-at-book-words .ensures;
+    } in
+    let day = day-whole bs ws n m filled (c .if-book-words-n .left) in
+    let part = book-part bs ws n m filled (c .if-book-words-n .left) in
+    let slips = slips-length bs ws n m filled in
     record {
       answer =
           ap Ok (sym slips)
@@ -49,11 +59,16 @@ returns-in-Err c =
     let n = c .fill-n .result in
     let m = c .word-at-book-words .result in
     let whole : broken bs ≡ false = sym (c .if-is-broken .ensures tt) in
-    let some : 1 ≤ n = omega (arith, c .fill-n .ensures .count, whole-words bs whole .0) in
-    let room : n ≤ length ws = omega (arith, c .fill-n .ensures .count, whole-words bs whole .1, c .fill-n .array-long) in
+    let filled : Filled bs ws n m = record {
+      whole = whole;
+      count = c .fill-n .ensures .count;
+      words = c .fill-n .ensures .words;
+      room = omega (arith, c .fill-n .ensures .count, whole-words bs whole .1, c .fill-n .array-long);
+      first = c .word-at-book-words .ensures;
+    } in
     let f = c .in-Err .fault in
-    let day = day-whole bs ws n m whole some (c .fill-n .ensures .count) room (c .fill-n .ensures .words) (c .word-at-book-words .ensures) (c .if-book-words-n .left) in
-    let part = book-part bs ws n m whole some (c .fill-n .ensures .count) room (c .fill-n .ensures .words) (c .word-at-book-words .ensures) (c .if-book-words-n .left) in
+    let day = day-whole bs ws n m filled (c .if-book-words-n .left) in
+    let part = book-part bs ws n m filled (c .if-book-words-n .left) in
     let told : c .new-in-Err .result ≡ inDay f = c .new-in-Err .ensures ∙ (λ i. fault (c .refusal .ensures i) (c .place .ensures i + 1)) in
     record {
       answer =
