@@ -3,5 +3,6 @@
 pub mod fault;
 pub mod progress;
 pub mod reader;
+pub mod show;
 pub mod slip;
 pub mod word;
