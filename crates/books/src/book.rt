@@ -5,6 +5,7 @@ ghost use Rattle.books.specs.Lanes.{laneAt, Ranks};
 use crate::lane::Lane;
 use sharing::card::Card;
 
+pub mod counts;
 pub mod edits;
 pub mod looks;
 pub mod open;

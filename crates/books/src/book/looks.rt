@@ -12,18 +12,6 @@ use crate::totals::Totals;
 use sharing::card::Card;
 
 impl Book {
-    pub fn shed_count(&self) -> usize
-        ensures { λ r. ⌜ r ≡ length (contents (now (self .entry)) .sheds) ⌝ }
-    {
-        self.sheds
-    }
-
-    pub fn lane_count(&self) -> usize
-        ensures { λ r. ⌜ r ≡ length (contents (now (self .entry)) .lanes) ⌝ }
-    {
-        self.lane_count
-    }
-
     // The card of a shed; none if it is not in the book.
     pub fn card(&self, shed: usize) -> Option<Card>
         ensures { λ r. ⌜ mapped terms r ≡ nth (contents (now (self .entry)) .sheds) shed ⌝ }
