@@ -1,5 +1,5 @@
 ghost use mathlib.Core.Path.{_≡_};
-ghost use Prim.Native.Nat.{ℕ, _+_, _*_, _≤_, _<_};
+ghost use Prim.Native.Nat.{ℕ, _+_, _≤_, _<_};
 ghost use lib.ListN.{take};
 ghost use Rattle.std.specs.Options.{mapped};
 ghost use Rattle.std.specs.shelf.Lists.{sum};
@@ -37,16 +37,14 @@ impl Card {
 
     // The sum of the targets.
     pub fn targets(&self) -> u32
-        ensures value { λ r. ⌜ r ≡ sum (terms (now (self .entry)) .targets) ⌝ }
-        ensures bound { λ r. ⌜ r ≤ 4095 ⌝ }
+        ensures { λ r. ⌜ r ≡ sum (terms (now (self .entry)) .targets) ⌝ }
     {
         front_sum(&self.target, self.lanes)
     }
 
     // The sum of the capacities.
     pub fn capacities(&self) -> u32
-        ensures value { λ r. ⌜ r ≡ sum (terms (now (self .entry)) .capacities) ⌝ }
-        ensures bound { λ r. ⌜ r ≤ 8 * 4095 ⌝ }
+        ensures { λ r. ⌜ r ≡ sum (terms (now (self .entry)) .capacities) ⌝ }
     {
         front_sum(&self.capacity, self.lanes)
     }

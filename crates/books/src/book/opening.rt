@@ -8,7 +8,8 @@ ghost use Rattle.std.specs.Results.{isOk};
 ghost use Rattle.std.specs.declared.option.Option.the-variants.{Some};
 ghost use Rattle.sheets.specs.Progress.{admits, accepts, passes};
 ghost use Rattle.sheets.specs.Words.{small};
-ghost use Rattle.books.specs.Opening.{reading, unread, progressOf, noted, walk, opening, said, Outcome};
+ghost use Rattle.books.specs.Opening.{reading, unread, progressOf, noted, walk, opening, said, answered, Outcome};
+ghost use Rattle.books.specs.Faulty.{FirstFault};
 use crate::book::Book;
 use sheets::fault::Fault;
 use sheets::fault::Refusal;
@@ -115,7 +116,8 @@ impl Opening {
 
     // A whole sheet.
     pub(super) fn read(sheet: &[u32]) -> Result<Book, Fault>
-        ensures { λ r. ⌜ said r ≡ opening (now (sheet .entry)) ⌝ }
+        ensures meaning { λ r. ⌜ said r ≡ opening (now (sheet .entry)) ⌝ }
+        ensures faults { λ r. ⌜ FirstFault (now (sheet .entry)) (answered (said r)) ⌝ }
     {
         let mut opening = Opening::new();
         let mut reader = Reader::new(sheet);

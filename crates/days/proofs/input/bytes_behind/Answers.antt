@@ -27,4 +27,4 @@ returns c =
     let head = c .args .head .now in
     let small = lt-leb 11593 (wordAt head 0) (omega (arith, c .word-at-book-words .ensures, c .if-book-words-ge-MOST-WORDS .left)) in
     let all : _≡_ {A = ℕ} 46369 (bytesBehind head) = sym (ap (λ b. elim b [ true ↦ 0 | false ↦ 46369 ]) (or-from (ltb (length head) 4) (leb 11593 (wordAt head 0)) (le-ltb (length head) 4 (c .if-head-lt4 .left)) small)) in
-    record { count = all; enough = enough-behind head 46369 all }
+    record { count = omega (arith, all); enough = enough-behind head 46369 all }

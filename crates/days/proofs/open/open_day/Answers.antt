@@ -24,7 +24,7 @@ returns-then-book-words-n c =
       room = omega (arith, c .fill-n .ensures .count, whole-words bs whole .1, c .fill-n .array-long);
       first = c .word-at-book-words .ensures;
     } in
-    let ragged = day-ragged bs ws n m filled (c .if-book-words-n .taken) in
+    let ragged = day-ragged bs ws n m filled (omega (arith, c .if-book-words-n .taken)) in
     record { answer = ap Err (c .new-then-book-words-n .ensures) ∙ sym (ap slipWords ragged); book = c .new .ensures ∙ sym (ap dayBook ragged) }
 
 pub returns-in-Ok : need.returns-in-Ok
@@ -41,8 +41,8 @@ returns-in-Ok c =
       room = omega (arith, c .fill-n .ensures .count, whole-words bs whole .1, c .fill-n .array-long);
       first = c .word-at-book-words .ensures;
     } in
-    let day = day-whole bs ws n m filled (c .if-book-words-n .left) in
-    let part = book-part bs ws n m filled (c .if-book-words-n .left) in
+    let day = day-whole bs ws n m filled (omega (arith, c .if-book-words-n .left)) in
+    let part = book-part bs ws n m filled (omega (arith, c .if-book-words-n .left)) in
     let slips = slips-length bs ws n m filled in
     record {
       answer =
@@ -67,9 +67,12 @@ returns-in-Err c =
       first = c .word-at-book-words .ensures;
     } in
     let f = c .in-Err .fault in
-    let day = day-whole bs ws n m filled (c .if-book-words-n .left) in
-    let part = book-part bs ws n m filled (c .if-book-words-n .left) in
-    let told : c .new-in-Err .result ≡ inDay f = c .new-in-Err .ensures ∙ (λ i. fault (c .refusal .ensures i) (c .place .ensures i + 1)) in
+    let day = day-whole bs ws n m filled (omega (arith, c .if-book-words-n .left)) in
+    let part = book-part bs ws n m filled (omega (arith, c .if-book-words-n .left)) in
+    let refusal = c .refusal .ensures in
+    let place = c .place .ensures in
+    let new = c .new-in-Err .ensures in
+    let told : c .new-in-Err .result ≡ inDay f = cc in
     record {
       answer =
           ap Err told

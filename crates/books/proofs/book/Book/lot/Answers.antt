@@ -18,8 +18,10 @@ returns-then-place-self c =
     let l = c .args .lane in
     let lane = laneAt (b .lanes) l in
     let place = c .args .place in
-    let here : place < length (take (lane .ranked) (lane .lots)) = omega (arith, ranked-length b l (c .if-lane-self .taken), ap (λ e. length (e .ranking)) (lane-of b l (c .if-lane-self .taken)), c .if-place-self .taken) in
-    sym (ap (λ e. nth (e .ranking) place) (lane-of b l (c .if-lane-self .taken)) ∙ nth-getD (take (lane .ranked) (lane .lots)) place 0 here ∙ ap Some (getD-take (lane .ranked) (lane .lots) place 0 (c .if-place-self .taken)))
+    let entry = lane-of b l (omega (arith, c .if-lane-self .taken)) in
+    let inside : place < lane .ranked = omega (arith, c .if-place-self .taken) in
+    let here : place < length (take (lane .ranked) (lane .lots)) = omega (arith, ranked-length b l (c .if-lane-self .taken), ap (λ e. length (e .ranking)) entry) in
+    sym (ap (λ e. nth (e .ranking) place) entry ∙ nth-getD (take (lane .ranked) (lane .lots)) place 0 here ∙ ap Some (getD-take (lane .ranked) (lane .lots) place 0 inside))
 
 pub returns-else-lane-self : need.returns-else-lane-self
 returns-else-lane-self c =

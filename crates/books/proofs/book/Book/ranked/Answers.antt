@@ -1,9 +1,8 @@
-use mathlib.Core.Path.{sym, ap, _∙_}
+use mathlib.Core.Path.{ap}
 use native.Mathlib.Omega.{arith}
 use lib.ListN.{length}
 use Rattle.std.proofs.shelf.Maps.{nth-getD, nth-past}
 use Rattle.std.specs.Options.{mapped}
-use Rattle.std.specs.declared.option.Option.the-variants.{Some}
 use Rattle.books.specs.Lanes.{Entry}
 use Rattle.books.specs.Contents.{contents, noEntry}
 use Rattle.books.proofs.Edits.{lanes-length, ranked-length}
@@ -12,10 +11,12 @@ use Rattle.books.proofs.book.Book.ranked.Needs as need
 pub returns-then-lane-self : need.returns-then-lane-self
 returns-then-lane-self c =
     let b = c .args .self .now in
-    let lane = c .args .lane in
-    sym (ap (mapped (λ (e : Entry). length (e .ranking))) (nth-getD (contents b .lanes) lane noEntry (omega (arith, lanes-length b, c .if-lane-self .taken))) ∙ ap Some (ranked-length b lane (c .if-lane-self .taken)))
+    let found = ap (mapped (λ (e : Entry). length (e .ranking))) (nth-getD (contents b .lanes) (c .args .lane) noEntry (omega (arith, lanes-length b, c .if-lane-self .taken))) in
+    let long = ranked-length b (c .args .lane) (c .if-lane-self .taken) in
+    cc
 
 pub returns-else-lane-self : need.returns-else-lane-self
 returns-else-lane-self c =
     let b = c .args .self .now in
-    sym (ap (mapped (λ (e : Entry). length (e .ranking))) (nth-past (contents b .lanes) (c .args .lane) (omega (arith, lanes-length b, c .if-lane-self .left))))
+    let past = ap (mapped (λ (e : Entry). length (e .ranking))) (nth-past (contents b .lanes) (c .args .lane) (omega (arith, lanes-length b, c .if-lane-self .left))) in
+    cc

@@ -15,7 +15,7 @@ use Rattle.sharing.proofs.Within.{targets-within}
 use Rattle.sharing.proofs.card.Card.with_lane.Needs as need
 
 pub add-targets : need.add-targets
-add-targets c = omega (arith, targets-within (c .args .self .now) (c .targets .result) (c .targets .ensures .value), c .args .self .now .«cap_small»)
+add-targets c = omega (arith, targets-within (c .args .self .now), c .targets .ensures, c .args .self .now .«cap_small»)
 
 pub ghost-result : need.ghost-result
 ghost-result c =
@@ -28,7 +28,7 @@ ghost-result c =
     let all-eight : length (s .target) ≡ 8 = search needs in
     let free : getD (s .target) at 0 ≡ 0 = omega (arith, s .«target_within» at (omega arith), s .«zero_off_card» at (omega arith) (omega arith)) in
     let front : c .targets .result ≡ sum (s .target) =
-    c .targets .ensures .value ∙ sum-front (s .target) at (λ k h off. omega (arith, s .«target_within» k (omega arith), s .«zero_off_card» k (omega arith) off))
+    c .targets .ensures ∙ sum-front (s .target) at (λ k h off. omega (arith, s .«target_within» k (omega arith), s .«zero_off_card» k (omega arith) off))
     in
     let small : (k : ℕ) → k < 8 → getD (set (s .capacity) at q) k 0 ≤ 4095 =
     λ k. at-set 0 (λ j x. j < 8 → x ≤ 4095) (s .capacity) at q k in-capacity (λ _. omega arith) (λ j _. s .«capacity_small» j)
@@ -51,7 +51,7 @@ returns c =
     let in-capacity : at < length (s .capacity) = search needs in
     let in-target : at < length (s .target) = search needs in
     let long : length (terms s .capacities) ≡ at = simp length-take (omega arith) in
-    let fit : unfit (terms s) (c .args .target) (c .args .capacity) ≡ false = let known = c .targets .ensures .value in let within = targets-within s (c .targets .result) (c .targets .ensures .value) in grind (arith, tells) in
+    let fit : unfit (terms s) (c .args .target) (c .args .capacity) ≡ false = let known = c .targets .ensures in let within = targets-within s in grind (arith, tells) in
     let capacities = take-more-set (s .capacity) at (c .args .capacity) in-capacity in
     let targets = take-more-set (s .target) at (c .args .target) in-target in
     (λ i. Some (record { shed = s .shed; limit = s .«cap»; capacities = capacities i; targets = targets i })) ∙ sym (lane-added (terms s) (c .args .target) (c .args .capacity) fit)

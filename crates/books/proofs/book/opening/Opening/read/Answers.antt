@@ -15,7 +15,10 @@ use Rattle.sheets.specs.declared.progress.Progress.{Progress}
 use Rattle.sheets.specs.declared.reader.Part.{Part}
 use Rattle.sheets.specs.Records.{Page, page, size, nextRecord, recordProgress}
 use Rattle.sheets.proofs.Passes.{Handed, handed}
-use Rattle.books.specs.Opening.{Reading, reading, progressOf, walk, unread}
+use Rattle.books.specs.Opening.{Reading, reading, progressOf, walk, unread, opening, answered}
+use Rattle.books.specs.Contents.{Contents, contents}
+use Rattle.books.specs.Faulty.{FirstFault}
+use Rattle.books.proofs.Faults.{first-fault}
 use Rattle.books.proofs.Walks.{accepted-outcome, refused-outcome, record-refused, record-read, record-stopped, opening-refused}
 use Rattle.books.proofs.book.opening.Opening.read.Needs as need
 
@@ -23,6 +26,10 @@ use Rattle.books.proofs.book.opening.Opening.read.Needs as need
 at-sheet : (p : Progress) (r : Reading) (words sheet : List ℕ) (at : ℕ) (t : Result (Option Page) Fault) → words ≡ sheet → p ≡ progressOf r → nextRecord p at (drop at words) ≡ t →
     nextRecord (progressOf r) at (drop at sheet) ≡ t
 at-sheet p r words sheet at t w e h = subst (λ v. nextRecord (progressOf r) at (drop at v) ≡ t) w (subst (λ q. nextRecord q at (drop at words) ≡ t) e h)
+
+-- what the sheet means, it means with its first fault
+as-judged : (sheet : List ℕ) (t : Result Contents Fault) → t ≡ opening sheet → record { meaning : t ≡ opening sheet; faults : FirstFault sheet (answered t) }
+as-judged sheet t e = record { meaning = e; faults = subst (λ u. FirstFault sheet (answered u)) (sym e) (first-fault sheet) }
 
 pub returns-in-Break-part : need.returns-in-Break-part
 returns-in-Break-part c =
@@ -33,7 +40,7 @@ returns-in-Break-part c =
     let inv = c .loop-part .inv in
     let stop = at-sheet (reader .progress) r (reader .words .now) sheet (reader .at) (Err f) (inv .0) (inv .1) (sym (c .in-Break-part .ensures tt .part)) in
     let out = err-from-errBy (c .from-residual .result) (c .from-residual .ensures .1) in
-    rw (out .1, out .2) (sym (opening-refused sheet f (sym (inv .2) ∙ record-refused r (reader .at) (drop (reader .at) sheet) f stop)))
+    rw (out .1, out .2) (as-judged sheet (Err f) (sym (opening-refused sheet f (sym (inv .2) ∙ record-refused r (reader .at) (drop (reader .at) sheet) f stop))))
 
 handed-part : (p : Progress) (r : Reading) (words sheet : List ℕ) (at : ℕ) (o : Option Part) (part : Part) → words ≡ sheet → p ≡ progressOf r → Ok (mapped page o) ≡ nextRecord p at (drop at words) → o ≡ Some part →
     Handed (progressOf r) at (drop at sheet) (page part)
@@ -81,4 +88,10 @@ returns-in-Break-read-record c =
     let hand = handed-part (reader .progress) r (reader .words .now) sheet (reader .at) (c .in-Continue-part .field-0) part (inv .0) (inv .1) (got .part) (c .in-Some .is) in
     let refused = refused-outcome (walk r (part .place) (part .words .now)) f (reading (c .read-record .last .self .book) (c .read-record .last .self .ranking)) (c .in-Break-read-record .ensures tt) in
     let out = err-from-errBy (c .from-residual-in-Break-read-record .result) (c .from-residual-in-Break-read-record .ensures .1) in
-    rw (out .1, out .2) (sym (opening-refused sheet f (sym (inv .2) ∙ record-stopped r sheet (reader .at) (page part) hand f refused)))
+    rw (out .1, out .2) (as-judged sheet (Err f) (sym (opening-refused sheet f (sym (inv .2) ∙ record-stopped r sheet (reader .at) (page part) hand f refused))))
+
+pub returns : need.returns
+returns c =
+    let book = c .loop-part .opening .book in
+    let meant : Ok (contents book) ≡ opening (c .args .sheet .now) = search needs in
+    as-judged (c .args .sheet .now) (Ok (contents book)) meant
