@@ -2,14 +2,18 @@
 use Prim.Native.Nat.{ℕ, _+_, _≤_, _<_}
 use mathlib.Core.Path.{_≡_, sym, ap, _∙_}
 use mathlib.Core.List.{List, [], _∷_, _++_, map}
+use mathlib.Core.Bool.{true, false}
+use mathlib.Core.Logic.{inl, inr}
 use native.Mathlib.Omega.{arith}
 use lib.ListN.{length, take, getD, set}
 use lib.Seq.{take-set-lt}
 use Rattle.std.proofs.shelf.Lists.{take-more-set, map-push, map-set, getD-map, getD-take, length-map, length-take, length-take-le, length-set}
+use Rattle.std.proofs.shelf.Tests.{cases-bool}
 use Rattle.sharing.specs.Cards.{terms}
 use Rattle.books.specs.declared.book.Book.{Book}
-use Rattle.books.specs.Lanes.{Entry, entry, laneAt, noLane}
-use Rattle.books.specs.Contents.{contents, laneOf, noEntry}
+use Rattle.books.specs.Lanes.{Entry, entry, laneAt, noLane, has}
+use Rattle.books.specs.Contents.{contents, laneOf, noEntry, rankingOf}
+use Rattle.books.proofs.Distinct.{distinct-room}
 
 module _ {X Y : Type 0} (f : X → Y) (xs : List X) where
   pub shown-push : (n : ℕ) (x : X) → n < length xs → map f (take (n + 1) (set xs n x)) ≡ map f (take n xs) ++ f x ∷ []
@@ -44,3 +48,16 @@ pub ranked-length : (b : Book) (l : ℕ) → l < b .«lane_count» → length (l
 ranked-length b l h =
     let ranks = b .rankings l (omega (arith, b .«few_lanes»)) in
     ap (λ e. length (e .ranking)) (lane-of b l h) ∙ length-take-le (laneAt (b .lanes) l .ranked) (laneAt (b .lanes) l .lots) (omega (arith, ranks .0, ranks .1))
+
+-- a lane that ranks 256 lots ranks every lot
+pub ranks-everyone : (b : Book) (l lot : ℕ) → l < b .«lane_count» → laneAt (b .lanes) l .ranked ≡ 256 → lot < 256 → has (rankingOf (contents b) l) lot ≡ true
+ranks-everyone b l lot h full below =
+    let lane = laneAt (b .lanes) l in
+    let ranks = b .rankings l (omega (arith, b .«few_lanes»)) in
+    let same = ap (λ e. e .ranking) (lane-of b l h) in
+    elim (cases-bool (has (rankingOf (contents b) l) lot)) [
+      | inl listed ↦ listed
+      | inr new ↦
+          let room = distinct-room 256 lot (take (lane .ranked) (lane .lots)) (ranks .3) (ranks .2) below (sym (ap (λ xs. has xs lot) same) ∙ new) in
+          absurd (omega (arith, room, ranked-length b l h, ap length same))
+    ]

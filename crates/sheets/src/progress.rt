@@ -5,7 +5,7 @@ use crate::fault::Refusal;
 use crate::word::BookWord;
 
 // How far a book sheet has come: enough to tell a word that is out of place or one too many.
-#[derive(Clone, Copy, PartialEq, Eq, Debug)]
+#[derive(Clone, Copy)]
 pub struct Progress {
     sheds: u8,
     lanes: u8,

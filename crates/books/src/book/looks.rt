@@ -1,9 +1,11 @@
 ghost use mathlib.Core.Path.{_≡_};
+ghost use mathlib.Core.Bool.{true};
 ghost use Prim.Native.Nat.{ℕ, _<_};
 ghost use lib.ListN.{length};
 ghost use Rattle.books.specs.Lanes.{has};
 ghost use Rattle.std.specs.Finite.{nth};
 ghost use Rattle.std.specs.Options.{mapped};
+ghost use Rattle.std.specs.declared.option.Option.the-variants.{Some};
 ghost use Rattle.sharing.specs.Cards.{terms};
 ghost use Rattle.books.specs.Contents.{contents, laneOf, rankingOf};
 ghost use Rattle.books.specs.Totals.{totalsOf, shedTotals, lotsRanked};
@@ -23,9 +25,11 @@ impl Book {
         }
     }
 
-    // How many lots a lane ranks; none if it is not in the book.
+    // How many lots a lane ranks; none if it is not in the book. A lane that ranks 256 lots ranks every lot, so a word
+    // that names one more is unknown or twice.
     pub fn ranked(&self, lane: usize) -> Option<usize>
-        ensures { λ r. ⌜ r ≡ mapped (λ e. length (e .ranking)) (nth (contents (now (self .entry)) .lanes) lane) ⌝ }
+        ensures answer { λ r. ⌜ r ≡ mapped (λ e. length (e .ranking)) (nth (contents (now (self .entry)) .lanes) lane) ⌝ }
+        ensures everyone { λ r. ⌜ (r ≡ Some 256 → (lot : ℕ) → lot < 256 → has (rankingOf (contents (now (self .entry))) lane) lot ≡ true) ⌝ }
     {
         if lane < self.lane_count {
             Some(self.lanes[lane].ranked as usize)
