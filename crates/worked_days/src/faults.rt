@@ -18,10 +18,11 @@ const REFUSALS: [(Refusal, u8, Layer); 10] = [
 ];
 
 #[test]
-fn refusals_have_their_numbers_and_layers() -> Result<(), Fail> {
+fn a_fault_has_its_number_its_place_and_its_layer() -> Result<(), Fail> {
     for (refusal, number, layer) in &REFUSALS {
-        let fault = Fault::new(*refusal, 0);
-        check(fault.refusal().number() == *number && fault.layer() == *layer).note(*number)?;
+        let fault = Fault::new(*refusal, 11);
+        let is_so = fault.refusal().number() == *number && fault.layer() == *layer;
+        check(is_so && fault.place() == 11).note(*number)?;
     }
     Ok(())
 }

@@ -21,14 +21,23 @@ pub(crate) fn is_part(
     check(place <= words.len() && words[place..].starts_with(part.words))
 }
 
-// The records of the sheet have these places and lengths. Each call behind them tells the fault, if there is one.
+// The reader hands out no record: it tells this fault, or the end where there is none.
+fn no_record(reader: &mut Reader<'_>, fault: Option<Fault>) -> Result<(), Fail> {
+    match reader.next_record() {
+        Ok(None) => check_eq(None, fault),
+        Ok(Some(_)) => Err(Fail::new("one record more")),
+        Err(told) => check_eq(Some(told), fault),
+    }
+}
+
+// The records of the sheet have these places and lengths, and no call behind them hands out one more.
 fn records(sheet: &[u32], parts: &[(usize, usize)], fault: Option<Fault>) -> Result<(), Fail> {
     let mut reader = Reader::new(sheet);
     for (place, length) in parts {
         is_part(reader.next_record()?, sheet, *place, *length)?;
     }
-    check_eq(reader.next_record().err(), fault)?;
-    check_eq(reader.next_record().err(), fault)
+    no_record(&mut reader, fault)?;
+    no_record(&mut reader, fault)
 }
 
 #[test]

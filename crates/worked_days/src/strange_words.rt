@@ -10,9 +10,9 @@ use std::test::*;
 
 // The word is strange as the first of a sheet and in a ranking.
 fn strange(word: u32) -> Result<(), Fail> {
-    let later = [0x10000001, 0x20000001, 0x30000000, word];
     refused(&[word], Refusal::Strange, 0, Layer::Word).note(format_args!("word {word:#x}"))?;
-    refused(&later, Refusal::Strange, 3, Layer::Word).note(format_args!("word {word:#x}"))
+    let sheet = [0x10000001, 0x20000001, 0x30000000, word];
+    refused(&sheet, Refusal::Strange, 3, Layer::Word)
 }
 
 // A word with one field has bits 12 to 27 zero, and one with two fields bits 24 to 27.
