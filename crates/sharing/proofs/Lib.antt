@@ -1,2 +1,6 @@
+pub mod Fronts
 pub mod Lanes
+pub mod Laws
+pub mod Picks
+pub mod Sums
 pub mod Within

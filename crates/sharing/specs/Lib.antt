@@ -1,1 +1,4 @@
 pub mod Cards
+pub mod LineUp
+pub mod Orders
+pub mod Rules

@@ -4,6 +4,7 @@ ghost use lib.ListN.{take};
 ghost use Rattle.std.specs.Options.{mapped};
 ghost use Rattle.std.specs.shelf.Lists.{sum};
 ghost use Rattle.sharing.specs.Cards.{terms, emptyTerms, withLane};
+ghost use Rattle.sharing.specs.Rules.{at};
 use crate::card::Card;
 
 // The sum of the first n numbers of a row.
@@ -33,6 +34,22 @@ impl Card {
             capacity: [0; 8],
             target: [0; 8],
         })
+    }
+
+    // The target of a lane, 0 off the card.
+    pub fn target_of(&self, lane: usize) -> u16
+        ensures value { λ r. ⌜ r ≡ at (terms (now (self .entry)) .targets) lane ⌝ }
+        ensures small { λ r. ⌜ r ≤ 4095 ⌝ }
+    {
+        if lane < 8 { self.target[lane] } else { 0 }
+    }
+
+    // The capacity of a lane, 0 off the card.
+    pub fn capacity_of(&self, lane: usize) -> u16
+        ensures value { λ r. ⌜ r ≡ at (terms (now (self .entry)) .capacities) lane ⌝ }
+        ensures small { λ r. ⌜ r ≤ 4095 ⌝ }
+    {
+        if lane < 8 { self.capacity[lane] } else { 0 }
     }
 
     // The sum of the targets.
