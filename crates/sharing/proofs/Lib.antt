@@ -1,3 +1,5 @@
+pub mod ByShares
+pub mod ByTurns
 pub mod Fronts
 pub mod Lanes
 pub mod Laws

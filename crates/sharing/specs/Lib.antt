@@ -2,3 +2,5 @@ pub mod Cards
 pub mod LineUp
 pub mod Orders
 pub mod Rules
+pub mod Shares
+pub mod Turns

@@ -4,3 +4,5 @@ pub mod line_up;
 pub mod make;
 pub mod order;
 pub mod rule;
+pub mod shares;
+pub mod turns;
