@@ -5,4 +5,5 @@ pub mod Lanes
 pub mod Laws
 pub mod Picks
 pub mod Sums
+pub mod Unlawful
 pub mod Within
