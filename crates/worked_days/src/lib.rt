@@ -1,5 +1,7 @@
-// Tests of words, sheets, slips and books on small examples. What they expect is worked out by hand from docs/.
+// Worked cases as theorems, and tests of words, sheets, slips, books and rules on small examples. What they expect is
+// worked out by hand from docs/.
 // Words are written in hexadecimal, as docs/FORMATS.md has them.
+pub mod answers;
 #[cfg(test)]
 mod faults;
 #[cfg(test)]
@@ -18,5 +20,7 @@ mod slips;
 mod strange_words;
 #[cfg(test)]
 mod targets;
+#[cfg(test)]
+mod two_rules;
 #[cfg(test)]
 mod whole_books;
