@@ -1,4 +1,6 @@
 // Shows a day for a person: is its sheet fit to open, and what does it say?
+#![tactic(auto)]
+
 use books::book::Book;
 use days::input::bytes_behind;
 use days::open::open_day;

@@ -1,5 +1,7 @@
 // Tests of rounds on small days and on a full one. What they expect is worked out by hand from docs/.
 // Words are written in hexadecimal, as docs/FORMATS.md has them.
+#![tactic(auto)]
+
 #[cfg(test)]
 mod applying;
 #[cfg(test)]

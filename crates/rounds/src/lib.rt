@@ -1,4 +1,6 @@
 // A round: slips are entered, lots apply, and the round is settled. Nothing here asks for memory.
+#![tactic(auto)]
+
 mod lines;
 mod lots;
 pub mod round;

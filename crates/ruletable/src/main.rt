@@ -1,4 +1,6 @@
 // Asks both sharing rules about cards that are written as lines, and prints what they keep and gain.
+#![tactic(auto)]
+
 use std::io::{BufRead, BufReader};
 use tables::question::Question;
 

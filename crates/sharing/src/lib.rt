@@ -1,4 +1,6 @@
 // How the lanes of a shed share its store. Nothing here knows words, lots or rounds.
+#![tactic(auto)]
+
 pub mod card;
 pub mod line_up;
 pub mod longest;

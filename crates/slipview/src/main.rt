@@ -1,4 +1,6 @@
 // Shows a day for a person: is its sheet fit to open, are its slips fit to enter, and what do they say?
+#![tactic(auto)]
+
 use boards::wishes::Wishes;
 use books::book::Book;
 use days::input::bytes_behind;

@@ -1,4 +1,6 @@
 // A table of what both sharing rules answer: questions as lines of text, complaints about lines, and answers.
+#![tactic(auto)]
+
 pub mod answer;
 pub mod ask;
 pub mod complaint;

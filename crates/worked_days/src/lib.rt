@@ -1,6 +1,8 @@
 // Worked cases as theorems, and tests of words, sheets, slips, books, rules and lines on small examples. What they
 // expect is worked out by hand from docs/.
 // Words are written in hexadecimal, as docs/FORMATS.md has them.
+#![tactic(auto)]
+
 pub mod answers;
 #[cfg(test)]
 mod faults;
