@@ -18,4 +18,4 @@ lot_apart (w ∷ ws) lot h e =
     ap (λ v. Ok (lot, v)) rest ∙ sym (ap read (some_from_ok (slip_word w) (fault Strange 0) (Lot lot) e))
 
 pub returns-in-Lot : goal.returns-in-Lot
-returns-in-Lot c = lot_apart c.args.slip.now c.in-Lot.lot (search rules) (sym c.read.ensures ∙ c.in-ok-lot.was ∙ ap Ok c.in-Lot.is)
+returns-in-Lot c = lot_apart c.args.slip.now c.in-Lot.lot (search rules) (sym c.read.ensures ∙ c.in_ok-lot-in-len1-up.was ∙ ap Ok c.in-Lot.is)

@@ -11,11 +11,11 @@ returns-then-self c =
 pub returns-in-Some : goal.returns-in-Some
 returns-in-Some c =
     let s = c.args.self.now in
-    let more = run_more s.progress s.words.now s.at c.in-Some.progress (search rules) (sym c.go-on.ensures ∙ c.in-Some.is) in
+    let more = run_more s.progress s.words.now s.at c.in-Some.progress (search rules) (sym c.go_on.ensures ∙ c.in-Some.is) in
     record { words = refl; at = refl; run = more.0; progress = more.1 }
 
 pub returns-in-None : goal.returns-in-None
 returns-in-None c =
     let s = c.args.self.now in
-    let stop = run_stop s.progress s.words.now s.at (search rules) (sym c.go-on.ensures ∙ c.in-None.is) in
+    let stop = run_stop s.progress s.words.now s.at (search rules) (sym c.go_on.ensures ∙ c.in-None.is) in
     record { words = refl; at = omega arith; run = stop.0; progress = stop.1 }

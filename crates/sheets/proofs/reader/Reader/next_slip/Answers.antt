@@ -4,7 +4,7 @@ use Rattle.sheets.specs.Records.{slip_length, next_slip}
 use Rattle.sheets.proofs.Parts.{part_length, part_words}
 use Rattle.sheets.proofs.Runs.{slip_past, slip_stop, slip_more}
 use Rattle.sheets.proofs.reader.Reader.next_slip.Goals as goal
-use Rattle.sheets.proofs.reader.Reader.next_slip.Goals.{then-loop-end-test+else-not-begins-slip, else-loop-end-test}
+use Rattle.sheets.proofs.reader.Reader.next_slip.Goals.{then-loop-end-test+else-not-begins_slip, else-loop-end-test}
 
 pub returns-then-start-self : goal.returns-then-start-self
 returns-then-start-self c =
@@ -14,7 +14,7 @@ returns-then-start-self c =
 pub loop-end-preserved : goal.loop-end-preserved
 loop-end-preserved c =
     let s = c.args.self.now in
-    let more = slip_more s.words.now c.loop-end.end c.loop-end-test.true (sym c.if-not-begins-slip.ensures) in
+    let more = slip_more s.words.now c.loop-end.end c.loop-end-test.true (sym c.if-not-begins_slip.ensures) in
     (omega arith, omega arith, omega (arith, c.loop-end.invariant.2, more))
 
 pub returns : goal.returns
@@ -24,7 +24,7 @@ returns c =
     let end = c.loop-end.end in
     let stops : slip_length (drop end ws) ≡ 0 =
     elim c.loop-end-test.branch [
-      | then-loop-end-test+else-not-begins-slip w ↦ slip_stop ws end w.loop-end-test.true (sym w.if-not-begins-slip.ensures)
+      | then-loop-end-test+else-not-begins_slip w ↦ slip_stop ws end w.loop-end-test.true (sym w.if-not-begins_slip.ensures)
       | else-loop-end-test w ↦ slip_past ws end w.loop-end-test.false
     ]
     in
