@@ -13,11 +13,11 @@ loop-dealt-preserved g c =
     let more = deal_more s (terms card) c.args.supply.now k card.«cap» c.loop-dealt.dealt c.in-Some.lane c.loop-dealt-test.true (sym c.in-Some.ensures.lane) in
     (length-set k c.in-Some.lane (at k c.in-Some.lane + 1) ∙ c.loop-dealt.invariant.0, sym more ∙ c.loop-dealt.invariant.1)
 
-pub returns-in-default : goal.returns-in-default
-returns-in-default g c =
+pub returns-in_default : goal.returns-in_default
+returns-in_default g c =
     let s = g.O.PlaceOrder.standing c.args.order.now in
     let card = c.args.card.now in
-    let none = deal_none s (terms card) c.args.supply.now c.loop-dealt.taken card.«cap» c.loop-dealt.dealt c.loop-dealt-test.true (sym c.in-default.ensures.lane) in
+    let none = deal_none s (terms card) c.args.supply.now c.loop-dealt.taken card.«cap» c.loop-dealt.dealt c.loop-dealt-test.true (sym c.in_default.ensures.lane) in
     sym none ∙ c.loop-dealt.invariant.1
 
 pub returns : goal.returns

@@ -6,8 +6,8 @@ use Rattle.sharing.proofs.Picks.{small_room}
 use Rattle.sharing.specs.Within.{lanes_are, lanes_are_few, capacity_is_small}
 use Rattle.sharing.proofs.line_up.next_lane.Goals as goal
 
-pub better-of-best-requires : goal.better-of-best-requires
-better-of-best-requires g c =
+pub better_of-best-requires : goal.better_of-best-requires
+better_of-best-requires g c =
     let s = g.O.PlaceOrder.standing c.args.order.now in
     record {
       lane = c.loop-lane-test.true;
@@ -21,7 +21,7 @@ loop-lane-preserved g c =
     let x = c.args.supply.now in
     let k = c.args.taken.now in
     let lane = c.loop-lane.lane in
-    c.better-of-best.ensures ∙ ap (picked s card x k lane) c.loop-lane.invariant ∙ ap (pick s card x k) (sym (add-one lane))
+    c.better_of-best.ensures ∙ ap (picked s card x k lane) c.loop-lane.invariant ∙ ap (pick s card x k) (sym (add-one lane))
 
 pub returns : goal.returns
 returns g c =

@@ -7,11 +7,11 @@ use Rattle.sharing.proofs.Lanes.{at_set, sum_front, lane_added}
 use Rattle.sharing.specs.Within.{targets_within}
 use Rattle.sharing.proofs.card.Card.with_lane.Goals as goal
 
-pub overflow-add-targets : goal.overflow-add-targets
-overflow-add-targets c = omega (arith, targets_within c.args.self.now, c.targets.ensures, c.args.self.now.cap_small)
+pub overflow_add-targets : goal.overflow_add-targets
+overflow_add-targets c = omega (arith, targets_within c.args.self.now, c.targets.ensures, c.args.self.now.cap_small)
 
-pub invariant-of-result : goal.invariant-of-result
-invariant-of-result c =
+pub invariant_of-result : goal.invariant_of-result
+invariant_of-result c =
     let s = c.args.self.now in
     let at = s.lanes in
     let q = c.args.capacity in
@@ -35,7 +35,17 @@ invariant-of-result c =
     let zero : (k : ℕ) → k < 8 → at + 1 ≤ k → get_or (set s.capacity at q) k 0 ≡ 0 =
     λ k. at_set 0 (λ j x. j < 8 → at + 1 ≤ j → x ≡ 0) s.capacity at q k in-capacity (λ _ off. absurd (omega arith)) (λ j _ h off. s.zero_off_card j h (omega arith))
     in
-    (simp length-set s.eight_capacities, (simp length-set s.eight_targets, (s.shed_known, (omega arith, (s.cap_small, (small, (within, (fit, (zero, tt)))))))))
+    record {
+      eight_capacities = simp length-set s.eight_capacities;
+      eight_targets = simp length-set s.eight_targets;
+      shed_known = s.shed_known;
+      few_lanes = omega arith;
+      cap_small = s.cap_small;
+      capacity_small = small;
+      target_within = within;
+      targets_fit = fit;
+      zero_off_card = zero;
+    }
 
 pub returns : goal.returns
 returns c =

@@ -16,6 +16,6 @@ returns g c =
     let is = c.dealt.ensures in
     let eight : length (deal s card x card.limit (replicate 8 0)) ≡ 8 = sym (ap length is) ∙ (search rules) in
     record {
-      line-up = ap (on_card card) is ∙ same_on_card s card x (deal s card x card.limit (replicate 8 0)) (omega (arith, eight, few)) (dealt_line_up s o card x few);
+      line_up = ap (on_card card) is ∙ same_on_card s card x (deal s card x card.limit (replicate 8 0)) (omega (arith, eight, few)) (dealt_line_up s o card x few);
       front = subst (Front s card x) (sym is) (dealt_front s o card x few);
     }

@@ -9,10 +9,10 @@ pub returns-in-Some : goal.returns-in-Some
 returns-in-Some c =
     let a = asks c.args.self.now in
     let card = c.args.self.now.card in
-    all_told a card.lanes c.keeps-turns.result c.keeps-shares.result (Some c.gain.result) (omega (arith, length-take card.lanes card.capacity, card.eight_capacities, card.few_lanes)) c.keeps-turns.ensures.line-up c.keeps-shares.ensures.line-up (ap Some c.gain.ensures ∙ sym (ap (option_map (gained a)) c.in-Some.is))
+    all_told a card.lanes c.keeps-turns.result c.keeps-shares.result (Some c.gain.result) (omega (arith, length-take card.lanes card.capacity, card.eight_capacities, card.few_lanes)) c.keeps-turns.ensures.line_up c.keeps-shares.ensures.line_up (ap Some c.gain.ensures ∙ sym (ap (option_map (gained a)) c.in-Some.is))
 
 pub returns-in-None : goal.returns-in-None
 returns-in-None c =
     let a = asks c.args.self.now in
     let card = c.args.self.now.card in
-    all_told a card.lanes c.keeps-turns.result c.keeps-shares.result None (omega (arith, length-take card.lanes card.capacity, card.eight_capacities, card.few_lanes)) c.keeps-turns.ensures.line-up c.keeps-shares.ensures.line-up (sym (ap (option_map (gained a)) c.in-None.is))
+    all_told a card.lanes c.keeps-turns.result c.keeps-shares.result None (omega (arith, length-take card.lanes card.capacity, card.eight_capacities, card.few_lanes)) c.keeps-turns.ensures.line_up c.keeps-shares.ensures.line_up (sym (ap (option_map (gained a)) c.in-None.is))
