@@ -113,7 +113,7 @@ def main():
             if dot and word not in fields:
                 before = text[:m.start()]
                 module = re.search(r"([\w']+)$", before)
-                if not (module and module.group(1)[0].isupper()):
+                if not (module and (module.group(1)[0].isupper() or ' as ' + module.group(1) + '\n' in text)):
                     return m.group(0)
             return dot + new[word]
 
