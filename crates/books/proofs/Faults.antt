@@ -104,7 +104,7 @@ reads_lane : (os : List (Option BookWord)) (r : Reading) (t q : ℕ) → 0 < len
 reads_lane os r t q some none k =
     let c = r.book in
     let fresh : Entry = record { shed = last_shed c; place = length (last_terms c).capacities; recorded = false; ranking = [] } in
-    let same = length-set c.sheds (last_shed c) (cards.moreTerms (last_terms c) t q) in
+    let same = length-set c.sheds (last_shed c) (cards.more_terms (last_terms c) t q) in
     let more = length_push c.lanes fresh in
     let last = last_of_lane c t q some in
     let unranked : (l : ℕ) → r.ranking ≡ Some l → ⊥ = λ l e. let z = ap is_some e in let y : ◌≡◌ {A = ℕ} 0 1 = cc in omega arith in

@@ -22,27 +22,27 @@ last_terms_is b d some = ap (λ n. get_or (contents b).sheds n no_shed) (last_sh
 refused_for_target : (t : Terms) (target capacity : ℕ) → length t.capacities < 8 → capacity ≤ 4095 → unfit t target capacity ≡ overtargeted t target capacity
 refused_for_target t target capacity room small = grind (arith, nat_tests)
 
-pub returns-in-default : goal.returns-in-default
-returns-in-default c =
+pub returns-in_default : goal.returns-in_default
+returns-in_default c =
     let b = c.args.self.now in
     let card = get_or b.cards (b.sheds - 1) c.index-self-shed.result in
     let last = last_terms_is b c.index-self-shed.result (search rules) in
-    let refused = lane_refused (terms card) c.args.target c.args.capacity (sym c.with-lane.ensures ∙ ap (option_map terms) c.in-default.is) in
+    let refused = lane_refused (terms card) c.args.target c.args.capacity (sym c.with_lane.ensures ∙ ap (option_map terms) c.in_default.is) in
     let why = refused_for_target (terms card) c.args.target c.args.capacity (subst (λ t. length t.capacities < 8) last c.requires.room) c.requires.small in
     record {
       answer = ap not (sym refused ∙ why ∙ ap (λ t. overtargeted t c.args.target c.args.capacity) (sym last));
       book = refl;
     }
 
-pub invariant-of-self : goal.invariant-of-self
-invariant-of-self c =
+pub invariant_of-self : goal.invariant_of-self
+invariant_of-self c =
     let b = c.args.self.now in
     let last = b.sheds - 1 in
     let n = b.lane_count in
     let card = get_or b.cards last c.index-self-shed.result in
     let wider = c.in-Some.wider in
     let blank : Ranks c.new.result = subst Ranks (sym c.new.ensures) (refl, omega arith, refl, refl) in
-    let taken = lane_taken (terms card) (terms wider) c.args.target c.args.capacity (sym c.with-lane.ensures ∙ ap (option_map terms) c.in-Some.is) in
+    let taken = lane_taken (terms card) (terms wider) c.args.target c.args.capacity (sym c.with_lane.ensures ∙ ap (option_map terms) c.in-Some.is) in
     let longer = one_lane_more card wider c.args.target c.args.capacity taken.1 in
     let inside : last < length b.cards = omega (arith, b.card_places, b.few_sheds, c.requires.shed) in
     let next : b.sheds ≡ last + 1 = omega (arith, c.requires.shed) in
@@ -50,26 +50,17 @@ invariant-of-self c =
     let all = sum_last (lanes_on b.cards) last b.sheds next in
     let stands : Stands (set b.cards last wider) b.sheds c.new.result n =
     subst (λ x. Stands (set b.cards last wider) b.sheds x n) (sym c.new.ensures) (stands_new b.cards last wider b.sheds card.lanes n (omega arith) inside (omega arith) (omega (arith, b.all_lanes)))
-    in (
-      search rules,
-      (
-        search rules,
-        (
-          search rules,
-          (
-            search rules,
-            (
-              (λ k. at_set no_lane (λ j x. j < 32 → Ranks x) b.lanes n c.new.result k (search rules) (λ _. blank) (λ j _. b.rankings j)),
-              (
-                (λ k. at_set no_lane (λ j x. j < n + 1 → Stands (set b.cards last wider) b.sheds x j) b.lanes n c.new.result k (search rules) (λ _. stands)
-                    (λ j ne h. stands_on b.cards last wider b.sheds b.sheds (lane_at b.lanes j) j (omega arith) (omega arith) inside (λ _. omega arith) (b.lanes_stand j (omega (arith, ne))))),
-                (omega (arith, sum_written b.cards last wider b.sheds next inside, b.all_lanes), tt),
-              ),
-            ),
-          ),
-        ),
-      ),
-    )
+    in
+    record {
+      card_places = search rules;
+      lane_places = search rules;
+      few_sheds = search rules;
+      few_lanes = search rules;
+      rankings = λ k. at_set no_lane (λ j x. j < 32 → Ranks x) b.lanes n c.new.result k (search rules) (λ _. blank) (λ j _. b.rankings j);
+      lanes_stand = λ k. at_set no_lane (λ j x. j < n + 1 → Stands (set b.cards last wider) b.sheds x j) b.lanes n c.new.result k (search rules) (λ _. stands)
+          (λ j ne h. stands_on b.cards last wider b.sheds b.sheds (lane_at b.lanes j) j (omega arith) (omega arith) inside (λ _. omega arith) (b.lanes_stand j (omega (arith, ne))));
+      all_lanes = omega (arith, sum_written b.cards last wider b.sheds next inside, b.all_lanes);
+    }
 
 pub returns : goal.returns
 returns c =
@@ -79,7 +70,7 @@ returns c =
     let q = c.args.capacity in
     let last = last_terms_is b c.index-self-shed.result (search rules) in
     let at = last_shed_is b in
-    let taken = lane_taken (terms card) (terms c.in-Some.wider) t q (sym c.with-lane.ensures ∙ ap (option_map terms) c.in-Some.is) in
+    let taken = lane_taken (terms card) (terms c.in-Some.wider) t q (sym c.with_lane.ensures ∙ ap (option_map terms) c.in-Some.is) in
     let why = refused_for_target (terms card) t q (subst (λ t. length t.capacities < 8) last c.requires.room) c.requires.small in
     let place : length (terms card).capacities ≡ card.lanes = simp length-take (omega (arith, card.eight_capacities, card.few_lanes)) in
     let sheds : set (contents b).sheds (b.sheds - 1) (terms c.in-Some.wider) ≡ set (contents b).sheds (last_shed (contents b)) (more_terms (last_terms (contents b)) t q) =

@@ -19,32 +19,23 @@ fresh o card shed limit h l is e =
     let told = ap (option_map terms) is in
     cc
 
-pub invariant-of-self : goal.invariant-of-self
-invariant-of-self c =
+pub invariant_of-self : goal.invariant_of-self
+invariant_of-self c =
     let b = c.args.self.now in
     let n = b.sheds in
     let card = c.unwrap.result in
     let made = fresh c.new.result card n c.args.cap (search rules) (search rules) c.unwrap.ensures c.new.ensures in
     let none : card.lanes ≡ 0 = sym (card_lanes card) ∙ ap lanes made in
-    let inside : n < length b.cards = omega (arith, b.card_places, c.requires.room) in (
-      search rules,
-      (
-        search rules,
-        (
-          search rules,
-          (
-            search rules,
-            (
-              b.rankings,
-              (
-                (λ l h. stands_on b.cards n card n (n + 1) (lane_at b.lanes l) l (omega arith) (omega arith) inside (λ same. absurd (omega arith)) (b.lanes_stand l h)),
-                (omega (arith, sum_written b.cards n card (n + 1) refl inside, b.all_lanes), tt),
-              ),
-            ),
-          ),
-        ),
-      ),
-    )
+    let inside : n < length b.cards = omega (arith, b.card_places, c.requires.room) in
+    record {
+      card_places = search rules;
+      lane_places = search rules;
+      few_sheds = search rules;
+      few_lanes = search rules;
+      rankings = b.rankings;
+      lanes_stand = λ l h. stands_on b.cards n card n (n + 1) (lane_at b.lanes l) l (omega arith) (omega arith) inside (λ same. absurd (omega arith)) (b.lanes_stand l h);
+      all_lanes = omega (arith, sum_written b.cards n card (n + 1) refl inside, b.all_lanes);
+    }
 
 pub returns : goal.returns
 returns c =

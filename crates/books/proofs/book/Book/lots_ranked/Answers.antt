@@ -7,8 +7,8 @@ use Rattle.books.specs.Totals.{lots_ranked}
 use Rattle.books.proofs.Edits.{lanes_length, ranked_length}
 use Rattle.books.proofs.book.Book.lots_ranked.Goals as goal
 
-pub overflow-add-ranked : goal.overflow-add-ranked
-overflow-add-ranked c = let b = c.args.self.now in omega (arith, c.loop-lane.invariant.1, (b.rankings c.loop-lane.lane (omega (arith, b.few_lanes))).1, b.few_lanes)
+pub overflow_add-ranked : goal.overflow_add-ranked
+overflow_add-ranked c = let b = c.args.self.now in omega (arith, c.loop-lane.invariant.1, (b.rankings c.loop-lane.lane (omega (arith, b.few_lanes))).1, b.few_lanes)
 
 pub loop-lane-preserved : goal.loop-lane-preserved
 loop-lane-preserved c =

@@ -32,32 +32,23 @@ push-requires c =
     let was = lane_of_known b l (search rules) in
     room (lane_at b.lanes l) c.args.lot (b.rankings l (search rules)) (search rules) (subst (λ e. has e.ranking c.args.lot ≡ false) was c.requires.fresh)
 
-pub invariant-of-self : goal.invariant-of-self
-invariant-of-self c =
+pub invariant_of-self : goal.invariant_of-self
+invariant_of-self c =
     let b = c.args.self.now in
     let l = c.args.lane in
     let was = lane_of_known b l (search rules) in
     let ranks = ranks_more (lane_at b.lanes l) c.args.lot (b.rankings l (search rules)) (search rules) (subst (λ e. has e.ranking c.args.lot ≡ false) was c.requires.fresh) in
     let here : Ranks c.push.new.self = subst Ranks (sym c.push.ensures) ranks in
-    let stands : Stands b.cards b.sheds c.push.new.self l = subst (λ x. Stands b.cards b.sheds x l) (sym c.push.ensures) (b.lanes_stand l (search rules)) in (
-      search rules,
-      (
-        search rules,
-        (
-          search rules,
-          (
-            search rules,
-            (
-              (λ k. at_set no_lane (λ j x. j < 32 → Ranks x) b.lanes l c.push.new.self k (search rules) (λ _. here) (λ j _. b.rankings j)),
-              (
-                (λ k. at_set no_lane (λ j x. j < b.lane_count → Stands b.cards b.sheds x j) b.lanes l c.push.new.self k (search rules) (λ _. stands) (λ j _. b.lanes_stand j)),
-                (b.all_lanes, tt),
-              ),
-            ),
-          ),
-        ),
-      ),
-    )
+    let stands : Stands b.cards b.sheds c.push.new.self l = subst (λ x. Stands b.cards b.sheds x l) (sym c.push.ensures) (b.lanes_stand l (search rules)) in
+    record {
+      card_places = search rules;
+      lane_places = search rules;
+      few_sheds = search rules;
+      few_lanes = search rules;
+      rankings = λ k. at_set no_lane (λ j x. j < 32 → Ranks x) b.lanes l c.push.new.self k (search rules) (λ _. here) (λ j _. b.rankings j);
+      lanes_stand = λ k. at_set no_lane (λ j x. j < b.lane_count → Stands b.cards b.sheds x j) b.lanes l c.push.new.self k (search rules) (λ _. stands) (λ j _. b.lanes_stand j);
+      all_lanes = b.all_lanes;
+    }
 
 pub returns : goal.returns
 returns c =

@@ -21,13 +21,13 @@ few_targets card n e = omega (arith, targets_within card, card.cap_small)
 few_capacities : (card : Card) (n : ℕ) → n ≡ sum (terms card).capacities → n ≤ 32760
 few_capacities card n e = omega (arith, capacities_within card)
 
-pub overflow-add-targets : goal.overflow-add-targets
-overflow-add-targets c =
+pub overflow_add-targets : goal.overflow_add-targets
+overflow_add-targets c =
     let card = get_or c.args.self.now.cards c.loop-shed.shed c.index-self-shed.result in
     omega (arith, c.loop-shed.invariant.1.1, few_targets card c.targets-targets.result c.targets-targets.ensures, c.args.self.now.few_sheds)
 
-pub overflow-add-capacities : goal.overflow-add-capacities
-overflow-add-capacities c =
+pub overflow_add-capacities : goal.overflow_add-capacities
+overflow_add-capacities c =
     let card = get_or c.args.self.now.cards c.loop-shed.shed c.index-self-shed.result in
     omega (arith, c.loop-shed.invariant.2.1, few_capacities card c.capacities-capacities.result c.capacities-capacities.ensures, c.args.self.now.few_sheds)
 

@@ -6,8 +6,8 @@ use Rattle.books.specs.Opening.{reading, progress_of}
 use Rattle.books.proofs.Edits.{lanes_length, sheds_length}
 use Rattle.books.proofs.book.opening.Opening.note.Goals as goal
 
-pub add-lane-requires : goal.add-lane-requires
-add-lane-requires c =
+pub add_lane-requires : goal.add_lane-requires
+add_lane-requires c =
     let b = c.args.self.now.book in
     let so_far = progress_of (reading b c.args.self.now.ranking) in
     let room = lane_admitted so_far (subst (λ w. is_ok (admits so_far w) ≡ true) c.in-Lane.is c.requires.admitted) in

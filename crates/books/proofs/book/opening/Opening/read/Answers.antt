@@ -22,15 +22,15 @@ at_sheet p r words sheet at t w e h = subst (λ v. next_record (progress_of r) a
 as_judged : (sheet : List ℕ) (t : Result Contents Fault) → t ≡ opening sheet → record { meaning : t ≡ opening sheet; faults : FirstFault sheet (answered t) }
 as_judged sheet t e = record { meaning = e; faults = subst (λ u. FirstFault sheet (answered u)) (sym e) (first_fault sheet) }
 
-pub returns-in-err-part : goal.returns-in-err-part
-returns-in-err-part c =
+pub returns-in_err-part : goal.returns-in_err-part
+returns-in_err-part c =
     let reader = c.loop-part.reader in
     let r = reading c.loop-part.opening.book c.loop-part.opening.ranking in
     let sheet = c.args.sheet.now in
-    let f = c.in-err-part.field-0.0 in
+    let f = c.in_err-part.field-0.0 in
     let inv = c.loop-part.invariant in
-    let stop = at_sheet reader.progress r reader.words.now sheet reader.at (Err f) inv.0 inv.1 (sym c.in-err-part.ensures.part) in
-    let out = err_from_is_err_and c.from-residual.result c.from-residual.ensures.1 in
+    let stop = at_sheet reader.progress r reader.words.now sheet reader.at (Err f) inv.0 inv.1 (sym c.in_err-part.ensures.part) in
+    let out = err_from_is_err_and c.from_residual.result c.from_residual.ensures.1 in
     rw (out.1, out.2) (as_judged sheet (Err f) (sym (opening_refused sheet f (sym inv.2 ∙ record_refused r reader.at (drop reader.at sheet) f stop))))
 
 handed_part : (p : Progress) (r : Reading) (words sheet : List ℕ) (at : ℕ) (o : Option Part) (part : Part) → words ≡ sheet → p ≡ progress_of r → Ok (option_map page o) ≡ next_record p at (drop at words) → o ≡ Some part →
@@ -38,15 +38,15 @@ handed_part : (p : Progress) (r : Reading) (words sheet : List ℕ) (at : ℕ) (
 handed_part p r words sheet at o part w e h is =
     handed (progress_of r) at (drop at sheet) (page part) (at_sheet p r words sheet at (Ok (Some (page part))) w e (sym h ∙ ap (λ o. Ok (option_map page o)) is))
 
-pub read-record-requires : goal.read-record-requires
-read-record-requires c =
+pub read_record-requires : goal.read_record-requires
+read_record-requires c =
     let reader = c.loop-part.reader in
     let r = reading c.loop-part.opening.book c.loop-part.opening.ranking in
     let inv = c.loop-part.invariant in
-    let got = c.in-ok-part.ensures in
-    let hand = handed_part reader.progress r reader.words.now c.args.sheet.now reader.at c.in-ok-part.field-0 c.in-Some.part inv.0 inv.1 got.part c.in-Some.is in
-    let end : c.next-record.new.self.at ≡ reader.at + length c.in-Some.part.words.now = got.at ∙ ap (λ o. reader.at + size (Ok o)) c.in-Some.is in
-    let within : c.next-record.new.self.at ≤ length c.args.sheet.now = subst (λ v. c.next-record.new.self.at ≤ length v) (got.words ∙ inv.0) c.next-record.new.self.within in
+    let got = c.in_ok-part.ensures in
+    let hand = handed_part reader.progress r reader.words.now c.args.sheet.now reader.at c.in_ok-part.field-0 c.in-Some.part inv.0 inv.1 got.part c.in-Some.is in
+    let end : c.next_record.new.self.at ≡ reader.at + length c.in-Some.part.words.now = got.at ∙ ap (λ o. reader.at + size (Ok o)) c.in-Some.is in
+    let within : c.next_record.new.self.at ≤ length c.args.sheet.now = subst (λ v. c.next_record.new.self.at ≤ length v) (got.words ∙ inv.0) c.next_record.new.self.within in
     let fits : length c.args.sheet.now < 2 ^ 64 = search rules in
     record { passing = hand.passing; places = omega (arith, hand.place, end, within, fits) }
 
@@ -54,31 +54,31 @@ pub loop-part-preserved : goal.loop-part-preserved
 loop-part-preserved c =
     let reader = c.loop-part.reader in
     let r = reading c.loop-part.opening.book c.loop-part.opening.ranking in
-    let s = reading c.read-record.new.self.book c.read-record.new.self.ranking in
+    let s = reading c.read_record.new.self.book c.read_record.new.self.ranking in
     let sheet = c.args.sheet.now in
     let inv = c.loop-part.invariant in
-    let got = c.in-ok-part.ensures in
+    let got = c.in_ok-part.ensures in
     let part = c.in-Some.part in
-    let hand = handed_part reader.progress r reader.words.now sheet reader.at c.in-ok-part.field-0 part inv.0 inv.1 got.part c.in-Some.is in
-    let end : c.next-record.new.self.at ≡ reader.at + length part.words.now = got.at ∙ ap (λ o. reader.at + size (Ok o)) c.in-Some.is in
-    let read = record_read r sheet reader.at (page part) hand s (accepted_outcome (walk r part.place part.words.now) s c.in-ok-read-record.ensures) in (
+    let hand = handed_part reader.progress r reader.words.now sheet reader.at c.in_ok-part.field-0 part inv.0 inv.1 got.part c.in-Some.is in
+    let end : c.next_record.new.self.at ≡ reader.at + length part.words.now = got.at ∙ ap (λ o. reader.at + size (Ok o)) c.in-Some.is in
+    let read = record_read r sheet reader.at (page part) hand s (accepted_outcome (walk r part.place part.words.now) s c.in_ok-read_record.ensures) in (
       got.words ∙ inv.0,
       got.progress ∙ ap (λ p. record_progress p reader.at (drop reader.at reader.words.now)) inv.1 ∙ ap (λ v. record_progress (progress_of r) reader.at (drop reader.at v)) inv.0 ∙ read.0,
       ap (λ n. walk s n (drop n sheet)) end ∙ read.1 ∙ inv.2,
     )
 
-pub returns-in-err-read-record : goal.returns-in-err-read-record
-returns-in-err-read-record c =
+pub returns-in_err-read_record : goal.returns-in_err-read_record
+returns-in_err-read_record c =
     let reader = c.loop-part.reader in
     let r = reading c.loop-part.opening.book c.loop-part.opening.ranking in
     let sheet = c.args.sheet.now in
     let inv = c.loop-part.invariant in
-    let got = c.in-ok-part.ensures in
+    let got = c.in_ok-part.ensures in
     let part = c.in-Some.part in
-    let f = c.in-err-read-record.field-0.0 in
-    let hand = handed_part reader.progress r reader.words.now sheet reader.at c.in-ok-part.field-0 part inv.0 inv.1 got.part c.in-Some.is in
-    let refused = refused_outcome (walk r part.place part.words.now) f (reading c.read-record.new.self.book c.read-record.new.self.ranking) c.in-err-read-record.ensures in
-    let out = err_from_is_err_and c.from-residual-in-err-read-record.result c.from-residual-in-err-read-record.ensures.1 in
+    let f = c.in_err-read_record.field-0.0 in
+    let hand = handed_part reader.progress r reader.words.now sheet reader.at c.in_ok-part.field-0 part inv.0 inv.1 got.part c.in-Some.is in
+    let refused = refused_outcome (walk r part.place part.words.now) f (reading c.read_record.new.self.book c.read_record.new.self.ranking) c.in_err-read_record.ensures in
+    let out = err_from_is_err_and c.from_residual-in_err-read_record.result c.from_residual-in_err-read_record.ensures.1 in
     rw (out.1, out.2) (as_judged sheet (Err f) (sym (opening_refused sheet f (sym inv.2 ∙ record_stopped r sheet reader.at (page part) hand f refused))))
 
 pub returns : goal.returns

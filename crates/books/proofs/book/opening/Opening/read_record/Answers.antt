@@ -5,8 +5,8 @@ use Rattle.books.specs.Opening.{reading, progress_of, walk}
 use Rattle.books.proofs.Walks.{accepted_outcome, refused_outcome, outcome_accepted, outcome_refused, at_passes, at_accepted, at_refused}
 use Rattle.books.proofs.book.opening.Opening.read_record.Goals as goal
 
-pub read-word-requires : goal.read-word-requires
-read-word-requires c =
+pub read_word-requires : goal.read_word-requires
+read_word-requires c =
     at_passes c.args.part.words.now c.loop-i.i c.loop-i-test.true (progress_of (reading c.loop-i.self.book c.loop-i.self.ranking)) c.loop-i.invariant.0
 
 pub loop-i-init : goal.loop-i-init
@@ -18,23 +18,23 @@ loop-i-init c =
 pub loop-i-preserved : goal.loop-i-preserved
 loop-i-preserved c =
     let r = reading c.loop-i.self.book c.loop-i.self.ranking in
-    let s = reading c.read-word.new.self.book c.read-word.new.self.ranking in
+    let s = reading c.read_word.new.self.book c.read_word.new.self.ranking in
     let ws = c.args.part.words.now in
     let i = c.loop-i.i in
     let place = c.args.part.place in
-    let word = accepted_outcome (walk r (place + i) (get_or ws i 0 ∷ [])) s c.in-ok-read-word.ensures in
+    let word = accepted_outcome (walk r (place + i) (get_or ws i 0 ∷ [])) s c.in_ok-read_word.ensures in
     let next = at_accepted ws i c.loop-i-test.true r s place c.loop-i.invariant.0 word in
     (next.0, next.1 ∙ c.loop-i.invariant.1)
 
-pub returns-in-err-read-word : goal.returns-in-err-read-word
-returns-in-err-read-word c =
+pub returns-in_err-read_word : goal.returns-in_err-read_word
+returns-in_err-read_word c =
     let r = reading c.loop-i.self.book c.loop-i.self.ranking in
     let ws = c.args.part.words.now in
     let i = c.loop-i.i in
     let place = c.args.part.place in
-    let f = c.in-err-read-word.field-0.0 in
-    let word = refused_outcome (walk r (place + i) (get_or ws i 0 ∷ [])) f (reading c.read-word.new.self.book c.read-word.new.self.ranking) c.in-err-read-word.ensures in
-    let out = err_from_is_err_and c.from-residual.result c.from-residual.ensures.1 in
+    let f = c.in_err-read_word.field-0.0 in
+    let word = refused_outcome (walk r (place + i) (get_or ws i 0 ∷ [])) f (reading c.read_word.new.self.book c.read_word.new.self.ranking) c.in_err-read_word.ensures in
+    let out = err_from_is_err_and c.from_residual.result c.from_residual.ensures.1 in
     rw (out.1, out.2) (outcome_refused _ f _ (sym c.loop-i.invariant.1 ∙ at_refused ws i c.loop-i-test.true r place f word))
 
 pub returns : goal.returns
