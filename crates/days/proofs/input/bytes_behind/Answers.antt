@@ -10,16 +10,16 @@ returns-then-head-lt4 c =
     let none : ◌≡◌ {A = ℕ} 0 (bytes_behind head) = sym (ap (λ b. elim b [ true ↦ 0 | false ↦ 46369 ]) (or_left (ltb (length head) 4) (leb 11593 (word_at head 0)) (lt-ltb (length head) 4 c.if-head-lt4.true))) in
     record { count = none; enough = enough_behind head 0 none }
 
-pub returns-then-book-words-ge-MOST-WORDS : goal.returns-then-book-words-ge-MOST-WORDS
-returns-then-book-words-ge-MOST-WORDS c =
+pub returns-then-book_words-ge-MOST_WORDS : goal.returns-then-book_words-ge-MOST_WORDS
+returns-then-book_words-ge-MOST_WORDS c =
     let head = c.args.head.now in
-    let large = le-leb 11593 (word_at head 0) (omega (arith, c.word-at-book-words.ensures, c.if-book-words-ge-MOST-WORDS.true)) in
+    let large = le-leb 11593 (word_at head 0) (omega (arith, c.word_at-book_words.ensures, c.if-book_words-ge-MOST_WORDS.true)) in
     let none : ◌≡◌ {A = ℕ} 0 (bytes_behind head) = sym (ap (λ b. elim b [ true ↦ 0 | false ↦ 46369 ]) (or_right (ltb (length head) 4) (leb 11593 (word_at head 0)) large)) in
     record { count = none; enough = enough_behind head 0 none }
 
 pub returns : goal.returns
 returns c =
     let head = c.args.head.now in
-    let small = lt-leb 11593 (word_at head 0) (omega (arith, c.word-at-book-words.ensures, c.if-book-words-ge-MOST-WORDS.false)) in
+    let small = lt-leb 11593 (word_at head 0) (omega (arith, c.word_at-book_words.ensures, c.if-book_words-ge-MOST_WORDS.false)) in
     let all : ◌≡◌ {A = ℕ} 46369 (bytes_behind head) = sym (ap (λ b. elim b [ true ↦ 0 | false ↦ 46369 ]) (or_from (ltb (length head) 4) (leb 11593 (word_at head 0)) (le-ltb (length head) 4 c.if-head-lt4.false) small)) in
     record { count = omega (arith, all); enough = enough_behind head 46369 all }
