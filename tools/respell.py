@@ -45,11 +45,12 @@ def own_names():
     names, fields = {}, {}
     for path in sorted(TOP.glob('*/specs/**/*.antt')) + sorted(TOP.glob('*/proofs/**/*.antt')):
         answers = path.name in ('Answers.antt', 'Invariants.antt', 'Proof.antt')
-        in_record = False
+        in_record, margin = False, 0
         for line in path.read_text().split('\n'):
-            if re.match(r'^(?:abbrev |pub )*record ', line):
-                in_record = True
-            elif line and not line[0].isspace():
+            indent = len(line) - len(line.lstrip())
+            if re.match(r'^\s*(?:abbrev |pub )*record ', line):
+                in_record, margin = True, indent
+            elif line and indent <= margin:
                 in_record = False
             head = HEAD.match(line)
             if not head:

@@ -237,7 +237,7 @@ module _ (m : Meaning) (law : Lawful m) (s : Board) (v : Formed s) (i n : ℕ) (
       }
 
   gone : (x : ℕ) (u : Leaves x) → cleared c m H h i u.lane x ≡ false
-  gone x u = ap (λ (z : Bool). elim z [ true ↦ chosen c m O u.lane x | false ↦ H u.lane x ]) (eq-eqb (lane_of c u.lane).shed g u.same-shed) ∙ sym (keeps_here m law s v i n e ranks x u.lane u.same-shed) ∙ u.not-kept
+  gone x u = ap (λ (z : Bool). elim z [ true ↦ chosen c m O u.lane x | false ↦ H u.lane x ]) (eq-eqb (lane_of c u.lane).shed g u.same_shed) ∙ sym (keeps_here m law s v i n e ranks x u.lane u.same_shed) ∙ u.not_kept
 
   sits_there : (x : ℕ) (u : Leaves x) → holds (get_or ys x Absent) u.lane ≡ true
   sits_there x u = ap (λ (y : Line). holds y u.lane) u.sits ∙ eq-eqb u.lane u.lane refl
@@ -284,10 +284,10 @@ module _ (m : Meaning) (law : Lawful m) (s : Board) (v : Formed s) (i n : ℕ) (
           let j : ℕ = (lane_of c l).place in
           let asked : O l x ≡ true = sym (claims m law s v i n e l x) ∙ sits_there x u in
           let lk : l < length c.lanes = claim_known m law s v i n e x l (claims_of x l (sits_there x u)) in
-          let jn : j < lanes (shed_of c g) = subst (λ (z : ℕ). (lane_of c l).place < lanes (shed_of c z)) u.same-shed (v.laid.stands_on_card l lk) in
-          let back : first_lane c g + j ≡ l = ap (λ (z : ℕ). first_lane c z + (lane_of c l).place) (sym u.same-shed) ∙ v.laid.in_order l lk in
+          let jn : j < lanes (shed_of c g) = subst (λ (z : ℕ). (lane_of c l).place < lanes (shed_of c z)) u.same_shed (v.laid.stands_on_card l lk) in
+          let back : first_lane c g + j ≡ l = ap (λ (z : ℕ). first_lane c z + (lane_of c l).place) (sym u.same_shed) ∙ v.laid.in_order l lk in
           let ranked : has (ranking_of c l) x ≡ true = claims_ranked m law s v i n e ranks l x lk asked in
-          let out : best (at K j) (O l) (ranking_of c l) x ≡ false = sym (kept_as x l u.same-shed) ∙ u.not-kept in
+          let out : best (at K j) (O l) (ranking_of c l) x ≡ false = sym (kept_as x l u.same_shed) ∙ u.not_kept in
           let short = best_short (O l) x asked (ranking_of c l) ranked (at K j) out in
           let supply : at X j ≡ offered (O l) (ranking_of c l) = ap (λ (f : List ℕ). at f j) (same_supply m law s v i n e ranks) ∙ supply_on c v.laid g here O j jn ∙ ap (λ (w : ℕ). offered (O w) (ranking_of c w)) back in
           let fewer : ltb (at K j) (at X j) ≡ true = lt-ltb (at K j) (at X j) (omega arith) in

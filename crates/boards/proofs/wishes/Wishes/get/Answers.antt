@@ -13,4 +13,4 @@ nth_item xs i (Some x) item = sym (slice_get_read xs (length xs) i x.now refl it
 pub returns : goal.returns
 returns c =
     let place = c.args.place in
-    c.copied.ensures ∙ nth_item c.wanted.result.now place c.get.result c.get.ensures.finds ∙ ap (λ xs. slice_get xs place) c.wanted.ensures
+    c.copied.ensures ∙ nth_item c.wanted.result.now place c.get.result c.get.ensures.lookup ∙ ap (λ xs. slice_get xs place) c.wanted.ensures
