@@ -152,8 +152,8 @@ pub(crate) fn runs<R: SharingRule>(
     round: &mut Round<R>,
     steps: &[Step<'_>],
 ) -> Result<(), Fail> {
-    for (i, step) in steps.iter().enumerate() {
-        makes(rt, round, *step).note(i)?;
+    for step in steps {
+        makes(rt, round, *step)?;
     }
     Ok(())
 }

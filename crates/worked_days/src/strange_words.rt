@@ -6,7 +6,7 @@ use std::test::Fail;
 
 // The word is strange as the first of a sheet and in a ranking.
 fn strange(rt: &impl Abort, word: u32) -> Result<(), Fail> {
-    refused(rt, &[word], Refusal::Strange, 0, Layer::Word).note(format_args!("word {word:#x}"))?;
+    refused(rt, &[word], Refusal::Strange, 0, Layer::Word)?;
     let sheet = [0x10000001, 0x20000001, 0x30000000, word];
     refused(rt, &sheet, Refusal::Strange, 3, Layer::Word)
 }
