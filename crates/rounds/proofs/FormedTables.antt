@@ -23,26 +23,23 @@ formed t = record {
 }
 
 -- the facts of the type, of a board that has what every round has
-abbrev pub Facts : Board → Type 0
-Facts s = Lists s × (Lines s × (Ranked s × (LanesWithin s × (ShedsWithin s × (Counted s × Unit {0})))))
+pub record Facts (s : Board) : Type 0 where
+  pub lists_lawful : Lists s
+  pub lines_fit : Lines s
+  pub held_ranked : Ranked s
+  pub lanes_within : LanesWithin s
+  pub sheds_within : ShedsWithin s
+  pub counted : Counted s
 
 pub facts : (s : Board) → Formed s → Facts s
-facts s v = (
-  (v.every_list, v.known, v.once, v.few),
-  (
-    (v.every_line, v.fit_lists),
-    (
-      (λ l i o. v.fits.ranked l i (held_known s v l i o) o),
-      (
-        v.fits.capacity,
-        (
-          v.fits.store,
-          (v.counted, tt),
-        ),
-      ),
-    ),
-  ),
-)
+facts s v = record {
+  lists_lawful = (v.every_list, v.known, v.once, v.few);
+  lines_fit = (v.every_line, v.fit_lists);
+  held_ranked = λ l i o. v.fits.ranked l i (held_known s v l i o) o;
+  lanes_within = v.fits.capacity;
+  sheds_within = v.fits.store;
+  counted = v.counted;
+}
 
 -- the same of a board that equals one
 pub facts_of : (s t : Board) → s ≡ t → Formed t → Facts s

@@ -3,15 +3,15 @@ use Rattle.books.specs.Contents.{contents}
 use Rattle.books.proofs.Laid.{book_laid}
 use Rattle.boards.proofs.Seats.{Counts, seated_few, counts_none, counts_more, counts_same, counts_all}
 use Rattle.rounds.proofs.lines.Lines.filling.Goals as goal
-use Rattle.rounds.proofs.lines.Lines.filling.Goals.{in-Some, in-default}
+use Rattle.rounds.proofs.lines.Lines.filling.Goals.{in-Some, in_default}
 
-pub overflow-add-counts : goal.overflow-add-counts
-overflow-add-counts c =
+pub overflow_add-counts : goal.overflow_add-counts
+overflow_add-counts c =
     let b = contents c.args.book.now in
     let ys = c.args.self.now.lines in
     let i = c.loop-line.line-index in
     let p = c.in-Some.place in
-    omega (arith, c.loop-line.invariant.1 p c.in-Some.ensures.stands_on_card, seated_few b (take i ys) c.args.shed p, length-take i ys, c.loop-line-test.true)
+    omega (arith, c.loop-line.invariant.1 p c.in-Some.ensures.on_card, seated_few b (take i ys) c.args.shed p, length-take i ys, c.loop-line-test.true)
 
 pub loop-line-init : goal.loop-line-init
 loop-line-init c = counts_none (contents c.args.book.now) c.args.shed
@@ -26,8 +26,8 @@ loop-line-preserved c =
     let g = c.args.shed in
     let xs = c.loop-line.counts in
     elim c.match-seat.branch [
-      | in-Some w ↦ subst (Counts b (take (i + 1) ys) g) (sym w.counts-is) (counts_more b laid g ys i inside xs c.loop-line.invariant w.in-Some.place w.in-Some.ensures.stands_on_card (sym w.in-Some.ensures.place))
-      | in-default w ↦ subst (Counts b (take (i + 1) ys) g) (sym w.counts-is) (counts_same b laid g ys i inside xs c.loop-line.invariant (sym w.in-default.ensures.place))
+      | in-Some w ↦ subst (Counts b (take (i + 1) ys) g) (sym w.counts-is) (counts_more b laid g ys i inside xs c.loop-line.invariant w.in-Some.place w.in-Some.ensures.on_card (sym w.in-Some.ensures.place))
+      | in_default w ↦ subst (Counts b (take (i + 1) ys) g) (sym w.counts-is) (counts_same b laid g ys i inside xs c.loop-line.invariant (sym w.in_default.ensures.place))
     ]
 
 pub returns : goal.returns

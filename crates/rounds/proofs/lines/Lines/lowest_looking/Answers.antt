@@ -27,7 +27,7 @@ pub loop-lot-preserved : goal.loop-lot-preserved
 loop-lot-preserved c =
     let ys = c.args.self.now.lines in
     let i = c.loop-lot.lot in
-    sym (later ys i (omega (arith, c.args.self.now.full, c.loop-lot-test.true)) c.in-default.not-Looking) ∙ c.loop-lot.invariant
+    sym (later ys i (omega (arith, c.args.self.now.full, c.loop-lot-test.true)) c.in_default.not-Looking) ∙ c.loop-lot.invariant
 
 pub returns-in-Looking : goal.returns-in-Looking
 returns-in-Looking c =

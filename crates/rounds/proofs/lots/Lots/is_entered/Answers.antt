@@ -10,7 +10,7 @@ pub returns-then-lot-lt256 : goal.returns-then-lot-lt256
 returns-then-lot-lt256 c =
     let s = c.args.self.now in
     let there = get_or_default s.lists c.args.lot c.index-self-lot.result None (omega (arith, s.every_list)) in
-    c.is-some.ensures ∙ ap is_some there ∙ sym (ap is_some (lists_at s.lists c.args.lot) ∙ mapped_some (get_or s.lists c.args.lot None))
+    c.is_some.ensures ∙ ap is_some there ∙ sym (ap is_some (lists_at s.lists c.args.lot) ∙ mapped_some (get_or s.lists c.args.lot None))
 
 pub returns-else-lot-lt256 : goal.returns-else-lot-lt256
 returns-else-lot-lt256 c =

@@ -11,7 +11,7 @@ pub returns-then-lot-lt256 : goal.returns-then-lot-lt256
 returns-then-lot-lt256 c =
     let s = c.args.self.now in
     let there = get_or_default s.lists c.args.lot c.index-self-lot.result None (omega (arith, s.every_list)) in
-    ap list_of (c.unwrap-or.ensures ∙ ap (λ (o : Option Wishes). unwrap_or o c.new.result) there) ∙
+    ap list_of (c.unwrap_or.ensures ∙ ap (λ (o : Option Wishes). unwrap_or o c.new.result) there) ∙
     value_list (get_or s.lists c.args.lot None) c.new.result c.new.ensures ∙
     ap wishes_of (sym (lists_at s.lists c.args.lot))
 

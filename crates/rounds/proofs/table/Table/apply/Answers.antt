@@ -26,33 +26,43 @@ module _ (m : Meaning) (law : Lawful m) (t : Table) (lot lane : ℕ) (asks : nex
       record { book = contents t.book; lists = lists_of u.lists; lines = u.lines.lines; count = u.count } ≡ apply m (board t) lot
   left u ls ys k = (λ i. record { book = contents t.book; lists = lists_of (ls i); lines = ys i; count = (k ∙ more t.lots.count) i }) ∙ sym (ap (board_of (board t)) told)
 
-pub returns-in-default : goal.returns-in-default
-returns-in-default g c =
+pub returns-in_default : goal.returns-in_default
+returns-in_default g c =
     let t = c.args.self.now in
-    let e = idle (g.R.SharingRule.meaning c.args.rule.now) (g.met.R.SharingRule.lawful c.args.rule.now) (board t) (formed t) c.args.lot (sym c.next-wish.ensures ∙ c.in-default.is) in
+    let e = idle (g.R.SharingRule.meaning c.args.rule.now) (g.met.R.SharingRule.lawful c.args.rule.now) (board t) (formed t) c.args.lot (sym c.next_wish.ensures ∙ c.in_default.is) in
     record {
       answer = ap {B = Result Outcome Fault} Err c.new.ensures ∙ sym (ap outcome_of e);
       board = sym (ap (board_of (board t)) e);
     }
 
-pub overflow-cast-lot : goal.overflow-cast-lot
-overflow-cast-lot g c =
+pub overflow_cast-lot : goal.overflow_cast-lot
+overflow_cast-lot g c =
     let t = c.args.self.now in
-    let below = applies_below (g.R.SharingRule.meaning c.args.rule.now) (g.met.R.SharingRule.lawful c.args.rule.now) (board t) (formed t) c.args.lot c.in-Some.lane (sym c.next-wish.ensures ∙ c.in-Some.is) in
+    let below = applies_below (g.R.SharingRule.meaning c.args.rule.now) (g.met.R.SharingRule.lawful c.args.rule.now) (board t) (formed t) c.args.lot c.in-Some.lane (sym c.next_wish.ensures ∙ c.in-Some.is) in
     search rules
 
 pub apply-requires : goal.apply-requires
 apply-requires g c = omega (arith, count_few (board c.args.self.now) (formed c.args.self.now))
 
-pub invariant-of-self : goal.invariant-of-self
-invariant-of-self g c =
+pub invariant_of-self : goal.invariant_of-self
+invariant_of-self g c =
     let t = c.args.self.now in
     let m = g.R.SharingRule.meaning c.args.rule.now in
     let law = g.met.R.SharingRule.lawful c.args.rule.now in
     let u = c.apply.new.self in
+    let f =
     facts_of (record { book = contents t.book; lists = lists_of u.lists; lines = u.lines.lines; count = u.count }) (apply m (board t) c.args.lot)
-    (left m law t c.args.lot c.in-Some.lane (sym c.next-wish.ensures ∙ c.in-Some.is) c.leaver-leaver.result c.leaver-leaver.ensures u c.apply.ensures.lists c.apply.ensures.lines c.apply.ensures.count)
+    (left m law t c.args.lot c.in-Some.lane (sym c.next_wish.ensures ∙ c.in-Some.is) c.leaver-leaver.result c.leaver-leaver.ensures u c.apply.ensures.lists c.apply.ensures.lines c.apply.ensures.count)
     (apply_keeps m law (board t) (formed t) c.args.lot).0
+    in
+    record {
+      lists_lawful = f.lists_lawful;
+      lines_fit = f.lines_fit;
+      held_ranked = f.held_ranked;
+      lanes_within = f.lanes_within;
+      sheds_within = f.sheds_within;
+      counted = f.counted;
+    }
 
 pub returns : goal.returns
 returns g c =
@@ -60,7 +70,7 @@ returns g c =
     let m = g.R.SharingRule.meaning c.args.rule.now in
     let law = g.met.R.SharingRule.lawful c.args.rule.now in
     let u = c.apply.new.self in
-    let asks = sym c.next-wish.ensures ∙ c.in-Some.is in
+    let asks = sym c.next_wish.ensures ∙ c.in-Some.is in
     record {
       answer = ap {B = Result Outcome Fault} Ok c.apply.ensures.answer ∙ sym (ap outcome_of (told m law t c.args.lot c.in-Some.lane asks c.leaver-leaver.result c.leaver-leaver.ensures));
       board = left m law t c.args.lot c.in-Some.lane asks c.leaver-leaver.result c.leaver-leaver.ensures u c.apply.ensures.lists c.apply.ensures.lines c.apply.ensures.count;

@@ -20,7 +20,7 @@ returns-in-Some c =
 pub loop-place-preserved : goal.loop-place-preserved
 loop-place-preserved c =
     let f = beyond_at (contents c.args.self.now.book) (asking (holding (board c.args.self.now)) c.args.asked.lane c.args.asked.lot) c.args.first c.args.supply.now c.args.keep.now in
-    sym (first_passes f c.loop-place.place c.args.lanes c.loop-place-test.true (sym c.in-default.ensures)) ∙ c.loop-place.invariant
+    sym (first_passes f c.loop-place.place c.args.lanes c.loop-place-test.true (sym c.in_default.ensures)) ∙ c.loop-place.invariant
 
 pub returns : goal.returns
 returns c =

@@ -27,61 +27,61 @@ module _ (t : Table) (lot lane : ℕ) (asks : next_wish (line_of (board t) lot) 
   slot : (lane_of (contents t.book) lane).place < 8
   slot = omega (arith, (book_laid t.book).stands_on_card lane known, few_on_card (contents t.book) (book_laid t.book) (lane_of (contents t.book) lane).shed home)
 
-pub returns-in-err-shed : goal.returns-in-err-shed
-returns-in-err-shed g c =
+pub returns-in_err-shed : goal.returns-in_err-shed
+returns-in_err-shed g c =
     let t = c.args.self.now in
-    absurd (lane_there (contents t.book) c.args.asked.lane (known t c.args.asked.lot c.args.asked.lane c.requires) (λ e. e.shed) c.shed-of.result c.shed-of.ensures.answer c.in-err-shed.was)
+    absurd (lane_there (contents t.book) c.args.asked.lane (known t c.args.asked.lot c.args.asked.lane c.requires) (λ e. e.shed) c.shed_of.result c.shed_of.ensures.answer c.in_err-shed.was)
 
-pub returns-in-err-place : goal.returns-in-err-place
-returns-in-err-place g c =
+pub returns-in_err-place : goal.returns-in_err-place
+returns-in_err-place g c =
     let t = c.args.self.now in
-    absurd (lane_there (contents t.book) c.args.asked.lane (known t c.args.asked.lot c.args.asked.lane c.requires) (λ e. e.place) c.place-of.result c.place-of.ensures c.in-err-place.was)
+    absurd (lane_there (contents t.book) c.args.asked.lane (known t c.args.asked.lot c.args.asked.lane c.requires) (λ e. e.place) c.place_of.result c.place_of.ensures c.in_err-place.was)
 
-pub returns-in-err-card : goal.returns-in-err-card
-returns-in-err-card g c =
+pub returns-in_err-card : goal.returns-in_err-card
+returns-in_err-card g c =
     let t = c.args.self.now in
     let lane = c.args.asked.lane in
     let inside = known t c.args.asked.lot lane c.requires in
-    let shed : c.in-ok-shed.shed ≡ (lane_of (contents t.book) lane).shed = lane_says (contents t.book) lane inside (λ e. e.shed) c.shed-of.result c.shed-of.ensures.answer c.in-ok-shed.shed c.in-ok-shed.was in
-    absurd (card_there (contents t.book) c.in-ok-shed.shed (subst (λ (z : ℕ). z < length (contents t.book).sheds) (sym shed) (home t c.args.asked.lot lane c.requires)) c.card.result c.card.ensures c.in-err-card.was)
+    let shed : c.in_ok-shed.shed ≡ (lane_of (contents t.book) lane).shed = lane_says (contents t.book) lane inside (λ e. e.shed) c.shed_of.result c.shed_of.ensures.answer c.in_ok-shed.shed c.in_ok-shed.was in
+    absurd (card_there (contents t.book) c.in_ok-shed.shed (subst (λ (z : ℕ). z < length (contents t.book).sheds) (sym shed) (home t c.args.asked.lot lane c.requires)) c.card.result c.card.ensures c.in_err-card.was)
 
-pub offset-bounds-supply-place : goal.offset-bounds-supply-place
-offset-bounds-supply-place g c =
+pub offset_bounds-supply-place : goal.offset_bounds-supply-place
+offset_bounds-supply-place g c =
     let t = c.args.self.now in
     let lane = c.args.asked.lane in
-    let place = lane_says (contents t.book) lane (known t c.args.asked.lot lane c.requires) (λ e. e.place) c.place-of.result c.place-of.ensures c.in-ok-place.place c.in-ok-place.was in
+    let place = lane_says (contents t.book) lane (known t c.args.asked.lot lane c.requires) (λ e. e.place) c.place_of.result c.place_of.ensures c.in_ok-place.place c.in_ok-place.was in
     omega (arith, slot t c.args.asked.lot lane c.requires)
 
 pub bounds-supply-place : goal.bounds-supply-place
 bounds-supply-place g c =
     let t = c.args.self.now in
     let lane = c.args.asked.lane in
-    let place = lane_says (contents t.book) lane (known t c.args.asked.lot lane c.requires) (λ e. e.place) c.place-of.result c.place-of.ensures c.in-ok-place.place c.in-ok-place.was in
+    let place = lane_says (contents t.book) lane (known t c.args.asked.lot lane c.requires) (λ e. e.place) c.place_of.result c.place_of.ensures c.in_ok-place.place c.in_ok-place.was in
     omega (arith, slot t c.args.asked.lot lane c.requires)
 
 pub bounds-supply-place-2 : goal.bounds-supply-place-2
 bounds-supply-place-2 g c = bounds-supply-place g c
 
-pub overflow-add-supply : goal.overflow-add-supply
-overflow-add-supply g c =
+pub overflow_add-supply : goal.overflow_add-supply
+overflow_add-supply g c =
     let t = c.args.self.now in
-    let few = filling_few (contents t.book) t.lots.lines.lines c.in-ok-shed.shed c.in-ok-place.place in
-    let is : at c.filling-supply.result c.in-ok-place.place ≡ at (filling (contents t.book) t.lots.lines.lines c.in-ok-shed.shed) c.in-ok-place.place = ap (λ (f : List ℕ). at f c.in-ok-place.place) c.filling-supply.ensures in
+    let few = filling_few (contents t.book) t.lots.lines.lines c.in_ok-shed.shed c.in_ok-place.place in
+    let is : at c.filling-supply.result c.in_ok-place.place ≡ at (filling (contents t.book) t.lots.lines.lines c.in_ok-shed.shed) c.in_ok-place.place = ap (λ (f : List ℕ). at f c.in_ok-place.place) c.filling-supply.ensures in
     omega (arith, t.lots.lines.full)
 
-pub overflow-sub-lane : goal.overflow-sub-lane
-overflow-sub-lane g c =
+pub overflow_sub-lane : goal.overflow_sub-lane
+overflow_sub-lane g c =
     let t = c.args.self.now in
     let lane = c.args.asked.lane in
     let inside = known t c.args.asked.lot lane c.requires in
-    let place = lane_says (contents t.book) lane inside (λ e. e.place) c.place-of.result c.place-of.ensures c.in-ok-place.place c.in-ok-place.was in
+    let place = lane_says (contents t.book) lane inside (λ e. e.place) c.place_of.result c.place_of.ensures c.in_ok-place.place c.in_ok-place.was in
     omega (arith, (book_laid t.book).in_order lane inside)
 
-pub beyond-any-requires : goal.beyond-any-requires
-beyond-any-requires g c =
+pub beyond_any-requires : goal.beyond_any-requires
+beyond_any-requires g c =
     let t = c.args.self.now in
     record {
-      lanes = c.in-ok-card.card.few_lanes;
+      lanes = c.in_ok-card.card.few_lanes;
       first = omega (arith, known t c.args.asked.lot c.args.asked.lane c.requires, (book_laid t.book).lanes_are_few);
     }
 
@@ -94,16 +94,16 @@ returns g c =
     let lane = c.args.asked.lane in
     let inside = known t lot lane c.requires in
     let asks = wish_of (line_of s lot) (wishes s lot) lane c.requires in
-    let shed : c.in-ok-shed.shed ≡ (lane_of b lane).shed = lane_says b lane inside (λ e. e.shed) c.shed-of.result c.shed-of.ensures.answer c.in-ok-shed.shed c.in-ok-shed.was in
-    let place : c.in-ok-place.place ≡ (lane_of b lane).place = lane_says b lane inside (λ e. e.place) c.place-of.result c.place-of.ensures c.in-ok-place.place c.in-ok-place.was in
-    let card : terms c.in-ok-card.card ≡ shed_of b (lane_of b lane).shed = card_says b c.in-ok-shed.shed (subst (λ (z : ℕ). z < length b.sheds) (sym shed) (home t lot lane c.requires)) c.card.result c.card.ensures c.in-ok-card.card c.in-ok-card.was ∙ ap (shed_of b) shed in
+    let shed : c.in_ok-shed.shed ≡ (lane_of b lane).shed = lane_says b lane inside (λ e. e.shed) c.shed_of.result c.shed_of.ensures.answer c.in_ok-shed.shed c.in_ok-shed.was in
+    let place : c.in_ok-place.place ≡ (lane_of b lane).place = lane_says b lane inside (λ e. e.place) c.place_of.result c.place_of.ensures c.in_ok-place.place c.in_ok-place.was in
+    let card : terms c.in_ok-card.card ≡ shed_of b (lane_of b lane).shed = card_says b c.in_ok-shed.shed (subst (λ (z : ℕ). z < length b.sheds) (sym shed) (home t lot lane c.requires)) c.card.result c.card.ensures c.in_ok-card.card c.in_ok-card.was ∙ ap (shed_of b) shed in
     let ranks : has (ranking_of b lane) lot ≡ true = sym c.if-not-ranks.ensures in
     let filled : c.filling-supply.result ≡ filling b s.lines (lane_of b lane).shed = c.filling-supply.ensures ∙ ap (filling b s.lines) shed in
-    let supply : List ℕ = set c.filling-supply.result c.in-ok-place.place (at c.filling-supply.result c.in-ok-place.place + 1) in
+    let supply : List ℕ = set c.filling-supply.result c.in_ok-place.place (at c.filling-supply.result c.in_ok-place.place + 1) in
     let supplying : supply ≡ supplied b s.lines lane = λ i. set (filled i) (place i) (at (filled i) (place i) + 1) in
-    let first : lane - c.in-ok-place.place ≡ first_lane b (lane_of b lane).shed = omega (arith, (book_laid t.book).in_order lane inside) in
+    let first : lane - c.in_ok-place.place ≡ first_lane b (lane_of b lane).shed = omega (arith, (book_laid t.book).in_order lane inside) in
     let law = g.met.R.SharingRule.lawful c.args.rule.now in
     let m = g.R.SharingRule.meaning c.args.rule.now in
-    c.beyond-any.ensures ∙
-    ap (first_of (beyond_at b (asking (holding s) lane lot) (lane - c.in-ok-place.place) supply c.choice-keep.result) 0) (sym (card_lanes c.in-ok-card.card)) ∙
-    found m law s (formed t) lot asks.0 asks.1 lane asks.2 ranks (lane - c.in-ok-place.place) first supply supplying (terms c.in-ok-card.card) card c.choice-keep.result c.choice-keep.ensures
+    c.beyond_any.ensures ∙
+    ap (first_of (beyond_at b (asking (holding s) lane lot) (lane - c.in_ok-place.place) supply c.choice-keep.result) 0) (sym (card_lanes c.in_ok-card.card)) ∙
+    found m law s (formed t) lot asks.0 asks.1 lane asks.2 ranks (lane - c.in_ok-place.place) first supply supplying (terms c.in_ok-card.card) card c.choice-keep.result c.choice-keep.ensures

@@ -17,8 +17,9 @@ returns c = λ i. record {
   count = c.new.ensures.count i;
 }
 
-pub invariant-of-result : goal.invariant-of-result
-invariant-of-result c =
+pub invariant_of-result : goal.invariant_of-result
+invariant_of-result c =
+    let f =
     facts_of (record { book = contents c.args.book.now; lists = lists_of c.new.result.lists; lines = c.new.result.lines.lines; count = c.new.result.count }) (begun (contents c.args.book.now))
     (λ i. record {
       book = contents c.args.book.now;
@@ -27,3 +28,12 @@ invariant-of-result c =
       count = c.new.ensures.count i;
     })
     (begun_formed (contents c.args.book.now) (book_laid c.args.book.now))
+    in
+    record {
+      lists_lawful = f.lists_lawful;
+      lines_fit = f.lines_fit;
+      held_ranked = f.held_ranked;
+      lanes_within = f.lanes_within;
+      sheds_within = f.sheds_within;
+      counted = f.counted;
+    }

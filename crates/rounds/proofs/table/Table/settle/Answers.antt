@@ -25,13 +25,13 @@ module _ (m : Meaning) (law : Lawful m) (t u : Table) (lot : ℕ) (looks : lowes
 
 pub loop-lot-smaller : goal.loop-lot-smaller
 loop-lot-smaller g c =
-    less (g.R.SharingRule.meaning c.args.rule.now) (g.met.R.SharingRule.lawful c.args.rule.now) c.loop-lot.self c.apply.new.self c.in-Some.lot (sym c.lowest-looking.ensures ∙ c.in-Some.is) c.apply.ensures.board
+    less (g.R.SharingRule.meaning c.args.rule.now) (g.met.R.SharingRule.lawful c.args.rule.now) c.loop-lot.self c.apply.new.self c.in-Some.lot (sym c.lowest_looking.ensures ∙ c.in-Some.is) c.apply.ensures.board
 
 pub loop-lot-preserved : goal.loop-lot-preserved
 loop-lot-preserved g c =
     let m = g.R.SharingRule.meaning c.args.rule.now in
     let law = g.met.R.SharingRule.lawful c.args.rule.now in
-    let looks = sym c.lowest-looking.ensures ∙ c.in-Some.is in
+    let looks = sym c.lowest_looking.ensures ∙ c.in-Some.is in
     let more = counted m law c.loop-lot.self c.apply.new.self c.in-Some.lot looks c.apply.ensures.board in
     (same m law c.loop-lot.self c.apply.new.self c.in-Some.lot looks c.apply.ensures.board ∙ c.loop-lot.invariant.0, c.loop-lot.invariant.1, omega (arith, c.loop-lot.invariant.2))
 
@@ -39,7 +39,7 @@ pub returns : goal.returns
 returns g c =
     let m = g.R.SharingRule.meaning c.args.rule.now in
     let s = board c.loop-lot.self in
-    let done : s ≡ settle m (board c.args.self.now) = sym (settle_stop m (all_wishes s.lists) s (sym c.lowest-looking.ensures ∙ c.in-default.is)) ∙ c.loop-lot.invariant.0 in
+    let done : s ≡ settle m (board c.args.self.now) = sym (settle_stop m (all_wishes s.lists) s (sym c.lowest_looking.ensures ∙ c.in_default.is)) ∙ c.loop-lot.invariant.0 in
     record {
       answer = (λ i. (c.count.ensures ∙ ap (λ (s : Board). s.count) done) i - c.loop-lot.invariant.1 i);
       board = done;
