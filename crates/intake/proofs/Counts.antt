@@ -10,7 +10,7 @@ use Rattle.boards.specs.Calls.{entered_lots}
 use Rattle.boards.specs.Slips.{Lists, list_at, list_of}
 use Rattle.boards.proofs.FormedEnters.{entering_ok}
 use Rattle.days.specs.Input.{Day, day_of, in_day}
-use Rattle.intake.specs.Slips.{cut, enter_all, LotForEachSlip}
+use Rattle.intake.specs.Slips.{cut, in_day_at, enter_all, LotForEachSlip}
 
 one : Option (List ℕ) → ℕ
 one o = cond (is_some o) 1 0

@@ -17,7 +17,7 @@ use Rattle.boards.specs.Boards.{Board, begun, slip_of, entered, enter, lot_of}
 use Rattle.boards.specs.Calls.{enters, calls, after, Reached, EveryRun}
 use Rattle.boards.specs.Slips.{Lists, list_at, wished, wishes_from, entering}
 use Rattle.days.specs.Input.{Day, day_of, in_day, book_in}
-use Rattle.intake.specs.Slips.{cut, enter_all, EntersSlips}
+use Rattle.intake.specs.Slips.{cut, in_day_at, enter_all, EntersSlips}
 use Rattle.intake.proofs.Cuts.{Next}
 
 -- a refusal is told at a place that is at most n

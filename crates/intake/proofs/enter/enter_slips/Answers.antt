@@ -4,7 +4,7 @@ use Rattle.sheets.specs.Records.{page, next_slip}
 use Rattle.boards.specs.Boards.{Board}
 use Rattle.rounds.specs.Tables.{board}
 use Rattle.days.specs.Input.{in_day}
-use Rattle.intake.specs.Slips.{cut, enter_all}
+use Rattle.intake.specs.Slips.{cut, in_day_at, enter_all}
 use Rattle.intake.proofs.Cuts.{Next, next_slip_is, no_slip}
 use Rattle.intake.proofs.Entries.{refused_within, slip_refused, slip_entered}
 use Rattle.intake.proofs.enter.enter_slips.Goals as goal
@@ -30,22 +30,22 @@ loop-slip-init g c =
       ap (λ (k : ℕ). enter_all (c.args.place + k) s (cut (drop k slips))) c.new-reader.ensures.at ∙ ap (λ (k : ℕ). enter_all k s (cut slips)) first,
     )
 
-pub overflow-add-place : goal.overflow-add-place
-overflow-add-place g c =
+pub overflow_add-place : goal.overflow_add-place
+overflow_add-place g c =
     let r = c.loop-slip.reader in
     let slips = c.args.slips.now in
     let got = c.in-Some.ensures in
-    let end = c.next-slip.new.self in
+    let end = c.next_slip.new.self in
     let hand = handed r.words.now end.words.now slips r.at end.at c.in-Some.slip c.loop-slip.invariant.0 got.words got.part got.at end.within in
     let place = hand.next.place in
     omega (arith, c.requires, place, hand.within)
 
-pub in-day-requires : goal.in-day-requires
-in-day-requires g c =
+pub in_day-requires : goal.in_day-requires
+in_day-requires g c =
     let r = c.loop-slip.reader in
     let slips = c.args.slips.now in
     let got = c.in-Some.ensures in
-    let end = c.next-slip.new.self in
+    let end = c.next_slip.new.self in
     let hand = handed r.words.now end.words.now slips r.at end.at c.in-Some.slip c.loop-slip.invariant.0 got.words got.part got.at end.within in
     let place = hand.next.place in
     let refused = (refused_within (board c.loop-slip.round.table) c.in-Some.slip.words.now c.in-Err.fault c.in-Err.ensures.answer).1 in
@@ -56,14 +56,14 @@ returns-in-Err g c =
     let r = c.loop-slip.reader in
     let slips = c.args.slips.now in
     let got = c.in-Some.ensures in
-    let end = c.next-slip.new.self in
+    let end = c.next_slip.new.self in
     let hand = handed r.words.now end.words.now slips r.at end.at c.in-Some.slip c.loop-slip.invariant.0 got.words got.part got.at end.within in
     let s = board c.loop-slip.round.table in
     let f = c.in-Err.fault in
     let refused = (refused_within s c.in-Some.slip.words.now f c.in-Err.ensures.answer).0 in
     record {
       board =
-          ap Err (c.in-day.ensures ∙ ap (λ (k : ℕ). in_day_at (c.args.place + k) f) hand.next.place)
+          ap Err (c.in_day.ensures ∙ ap (λ (k : ℕ). in_day_at (c.args.place + k) f) hand.next.place)
           ∙ sym (slip_refused c.args.place r.at s slips (page c.in-Some.slip) hand.next f refused)
           ∙ c.loop-slip.invariant.2;
       rule = tt;
@@ -74,7 +74,7 @@ loop-slip-smaller g c =
     let r = c.loop-slip.reader in
     let slips = c.args.slips.now in
     let got = c.in-Some.ensures in
-    let end = c.next-slip.new.self in
+    let end = c.next_slip.new.self in
     let hand = handed r.words.now end.words.now slips r.at end.at c.in-Some.slip c.loop-slip.invariant.0 got.words got.part got.at end.within in
     let some = hand.next.some in
     omega (arith, some, got.at, hand.within)
@@ -84,18 +84,18 @@ loop-slip-preserved g c =
     let r = c.loop-slip.reader in
     let slips = c.args.slips.now in
     let got = c.in-Some.ensures in
-    let end = c.next-slip.new.self in
+    let end = c.next_slip.new.self in
     let hand = handed r.words.now end.words.now slips r.at end.at c.in-Some.slip c.loop-slip.invariant.0 got.words got.part got.at end.within in
     let place = c.args.place in
     let s = board c.loop-slip.round.table in
     let t = board c.enter.new.self.table in
     let slip = c.in-Some.slip in
-    let after = c.in-default-enter.ensures in (
+    let after = c.in_default-enter.ensures in (
       got.words ∙ c.loop-slip.invariant.0,
       after.rule ∙ c.loop-slip.invariant.1,
       ap (λ (n : ℕ). enter_all (place + n) t (cut (drop n slips))) got.at
           ∙ ap (λ (u : Board). enter_all (place + (r.at + length slip.words.now)) u (cut (drop (r.at + length slip.words.now) slips))) after.board
-          ∙ sym (slip_entered place r.at s slips (page slip) hand.next c.in-default-enter.field-0 after.answer)
+          ∙ sym (slip_entered place r.at s slips (page slip) hand.next c.in_default-enter.field-0 after.answer)
           ∙ c.loop-slip.invariant.2,
     )
 
@@ -104,7 +104,7 @@ returns g c =
     let r = c.loop-slip.reader in
     let s = board c.loop-slip.round.table in
     let slips = c.args.slips.now in
-    let none : next_slip r.at (drop r.at slips) ≡ None = sym (c.in-default.ensures.part ∙ ap (λ (v : List ℕ). next_slip r.at (drop r.at v)) c.loop-slip.invariant.0) in
+    let none : next_slip r.at (drop r.at slips) ≡ None = sym (c.in_default.ensures.part ∙ ap (λ (v : List ℕ). next_slip r.at (drop r.at v)) c.loop-slip.invariant.0) in
     record {
       board = sym (ap (enter_all (c.args.place + r.at) s) (no_slip r.at (drop r.at slips) none)) ∙ c.loop-slip.invariant.2;
       rule = c.loop-slip.invariant.1;
