@@ -1,6 +1,5 @@
 -- An application, by the lot that has to go.
-use Rattle.std.proofs.Common.{◌≡◌, ℕ, zero, suc, ◌+◌, ◌-◌, ◌*◌, ◌<◌, ◌≤◌, Bool, true, false, eqb, ltb, ◌⊎◌, List, [], length, get_or, set, Some, None, Ok, Err, Option, Result, sym, refl, ap, ◌∙◌, subst, inl, inr, arith}
-use Rattle.std.specs.List.{slice_get}
+use Rattle.std.proofs.Common.{◌≡◌, ℕ, zero, suc, ◌*◌, ◌<◌, ◌≤◌, Bool, true, false, eqb, List, length, set, Some, None, Ok, Err, Option, Result, sym, refl, ap, ◌∙◌, subst, arith}
 use Rattle.std.proofs.lemmas.Option.{slice_get-get_or}
 use Rattle.std.proofs.lemmas.Bool.{eq-eqb, ltb-true}
 use Rattle.sheets.specs.declared.fault.Fault.{Fault}
@@ -15,9 +14,9 @@ use Rattle.boards.specs.declared.line.Line.TheVariants.{Absent, Looking, Held, S
 use Rattle.boards.specs.declared.line.Event.TheVariants.{Taken, Dropped, TurnedAway}
 use Rattle.boards.specs.declared.outcome.Outcome.{Outcome}
 use Rattle.boards.specs.declared.outcome.Outcome.TheVariants.{TurnedAway as Refused, TakenFor}
-use Rattle.boards.specs.Lines.{tried_of, fits_list}
+use Rattle.boards.specs.Lines.{fits_list}
 use Rattle.boards.specs.Slips.{list_at}
-use Rattle.boards.specs.Boards.{Board, line_of, wishes, tried, filling, keeps, leaver, outcome, clear, ask, turn_away, apply_to, applied, application}
+use Rattle.boards.specs.Boards.{Board, line_of, wishes, tried, filling, keeps, leaver, outcome, ask, turn_away, apply_to, applied, application}
 use Rattle.boards.specs.Formed.{Formed}
 use Rattle.boards.specs.Searches.{next_wish, note_in, moved, goes}
 use Rattle.boards.proofs.BoardLines.{tried_within}

@@ -1,31 +1,28 @@
 -- Lists of calls: what every round has, and that it stands.
-use Rattle.std.proofs.Common.{◌≡◌, ℕ, zero, suc, ◌+◌, ◌-◌, ◌*◌, ◌<◌, ◌≤◌, Bool, true, false, cond, not, ◌&&◌, ◌||◌, eqb, ltb, ◌⊎◌, List, [], ◌∷◌, ◌++◌, length, get_or, set, replicate, is_some, Some, None, Ok, Err, Option, Result, sym, refl, ap, ◌∙◌, subst, inl, inr, arith}
-use mathlib.Core.Path.{fun_ext}
+use Rattle.std.proofs.Common.{◌≡◌, ℕ, zero, suc, ◌+◌, ◌-◌, ◌*◌, ◌<◌, ◌≤◌, Bool, true, false, cond, ltb, List, [], ◌∷◌, ◌++◌, length, get_or, set, is_some, Some, None, Ok, Err, Option, Result, sym, refl, ap, ◌∙◌, subst, inl, inr, arith}
 use Rattle.std.proofs.lemmas.List.Sums.{sum_by-cons}
 use Rattle.std.proofs.lemmas.Bool.Decides.{nat_tests}
-use Rattle.std.proofs.lemmas.Bool.{cases_Bool, cases_eq, both_ways, eqb-true, eq-eqb, ne_eqb, ltb-true}
+use Rattle.std.proofs.lemmas.Bool.{cases_eq, both_ways, eq-eqb, ne_eqb, ltb-true}
 use Rattle.sheets.specs.declared.fault.Fault.{Fault}
-use Rattle.sheets.specs.declared.fault.Refusal.TheVariants.{Idle}
-use Rattle.sheets.specs.Faults.{fault}
 use Rattle.sharing.specs.Rules.{at, sum_to, Meaning, Lawful}
 use Rattle.sharing.specs.Sums.{sum_mono}
 use Rattle.books.specs.Lanes.{has, all_below}
 use Rattle.books.specs.Contents.{Contents, lane_of, ranking_of}
-use Rattle.books.specs.Laid.{Laid, shed_of}
-use Rattle.matching.specs.Offers.{Offers, asking, chosen, cleared}
+use Rattle.books.specs.Laid.{Laid}
+use Rattle.matching.specs.Offers.{asking, chosen, cleared}
 use Rattle.matching.proofs.Ones.{at_most_one_goes}
 use Rattle.matching.proofs.Orders.{settled_is_least}
 use Rattle.matching.proofs.Sheds.{choosing}
 use Rattle.boards.specs.declared.line.Line.{Line}
 use Rattle.boards.specs.declared.line.Line.TheVariants.{Absent, Looking, Held, Spent}
 use Rattle.boards.specs.declared.outcome.Outcome.{Outcome}
-use Rattle.boards.specs.Lines.{holds, looks, tried_of, wishes_of, lowest}
-use Rattle.boards.specs.Slips.{Lists, list_at, entering}
-use Rattle.boards.specs.Boards.{Board, line_of, wishes, holding, tried, begun, entered, slip_of, enter, ask, turn_away, apply_to, applied, application, board_of, apply, settle_for, all_wishes, settle}
+use Rattle.boards.specs.Lines.{looks, tried_of, wishes_of, lowest}
+use Rattle.boards.specs.Slips.{Lists, list_at}
+use Rattle.boards.specs.Boards.{Board, line_of, wishes, holding, tried, begun, entered, slip_of, enter, ask, turn_away, apply_to, applied, board_of, apply, settle_for, all_wishes, settle}
 use Rattle.boards.specs.Formed.{Formed}
-use Rattle.boards.specs.Calls.{Call, enters, applies, settles, call, calls, after, listed, accepts, accepted, Stand, Reached, EveryRun, GoesOn, SettlesLeast, entered_lots, Claims, AtMostOneGoes, Quiet}
+use Rattle.boards.specs.Calls.{Call, enters, applies, settles, call, calls, after, listed, accepts, Stand, Reached, EveryRun, GoesOn, SettlesLeast, entered_lots, Claims, AtMostOneGoes, Quiet}
 use Rattle.boards.proofs.BoardLines.{tried_within, held_last, held_on_list, looking}
-use Rattle.boards.proofs.FormedApplies.{Step, room, looks_in, wish_in, free, step_asked, step_away, apply_formed, apply_stands}
+use Rattle.boards.proofs.FormedApplies.{wish_in, free, step_asked, step_away, apply_formed, apply_stands}
 use Rattle.boards.proofs.FormedEnters.{entering_ok, begun_formed, begun_stands, enter_formed, enter_stands}
 
 -- the lowest looking lot looks

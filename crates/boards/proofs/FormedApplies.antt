@@ -1,16 +1,15 @@
 -- An application keeps what every round has, and a round that stands stands again.
-use Rattle.std.proofs.Common.{◌≡◌, ℕ, zero, suc, ◌+◌, ◌-◌, ◌<◌, ◌≤◌, Bool, true, false, not, ◌&&◌, ◌||◌, eqb, ltb, ◌⊎◌, List, [], ◌∷◌, length, get_or, set, is_some, Some, None, Option, sym, refl, ap, ◌∙◌, subst, inl, inr, arith}
+use Rattle.std.proofs.Common.{◌≡◌, ℕ, zero, suc, ◌+◌, ◌<◌, ◌≤◌, Bool, true, false, eqb, List, [], ◌∷◌, length, get_or, set, Option, sym, refl, ap, ◌∙◌, subst, inl, inr, arith}
 use mathlib.Core.Path.{fun_ext}
 use Rattle.std.proofs.lemmas.List.{length-set, get_or_past}
 use Rattle.std.proofs.lemmas.Bool.Decides.{nat_tests}
-use Rattle.std.proofs.lemmas.Bool.{cases_lt, cases_Bool, cases_eq, both_ways, eqb-true, eqb-false, eq-eqb, ne_eqb, ltb-true}
-use Rattle.sharing.specs.Rules.{at, sum_to, Meaning, Lawful}
+use Rattle.std.proofs.lemmas.Bool.{cases_lt, cases_Bool, cases_eq, both_ways, eqb-true, eq-eqb, ne_eqb, ltb-true}
+use Rattle.sharing.specs.Rules.{at, Meaning, Lawful}
 use Rattle.books.specs.Lanes.{has, distinct, all_below}
 use Rattle.books.specs.Contents.{Contents, lane_of, ranking_of}
-use Rattle.books.specs.Laid.{Laid, shed_of, first_lane}
+use Rattle.books.specs.Laid.{Laid, shed_of}
 use Rattle.matching.specs.Offers.{Offers, asking, best, supply_of, chosen, cleared}
-use Rattle.matching.specs.Choosing.{Choosing}
-use Rattle.matching.specs.Vectors.{Listed, put, offers}
+use Rattle.matching.specs.Vectors.{put}
 use Rattle.matching.specs.Stands.{Stands}
 use Rattle.matching.specs.Theorems.{Fits, OthersStay}
 use Rattle.matching.proofs.Wishes.{has_at, below_at, put_here, put_there, put_all}
@@ -18,15 +17,15 @@ use Rattle.matching.proofs.Sheds.{choosing}
 use Rattle.matching.proofs.Ones.{sum_one, clearing_fits}
 use Rattle.matching.proofs.Orders.{applying_stands, applying_leaves_others}
 use Rattle.boards.specs.declared.line.Line.{Line}
-use Rattle.boards.specs.declared.line.Line.TheVariants.{Absent, Looking, Held, Spent}
+use Rattle.boards.specs.declared.line.Line.TheVariants.{Absent, Looking, Held}
 use Rattle.boards.specs.declared.line.Event.TheVariants.{TurnedAway}
 use Rattle.boards.specs.declared.outcome.Outcome.{Outcome}
-use Rattle.boards.specs.Lines.{place, next, noted, holds, looks, tried_of, wishes_of}
+use Rattle.boards.specs.Lines.{next, noted, holds, looks, tried_of, wishes_of}
 use Rattle.boards.specs.Slips.{list_at}
-use Rattle.boards.specs.Boards.{Board, line_of, wishes, holding, tried, filling, keeps, stays, turned, clear, ask, turn_away, apply_to, applied, application, board_of, apply}
+use Rattle.boards.specs.Boards.{Board, line_of, wishes, holding, tried, filling, keeps, stays, turned, ask, turn_away, apply_to}
 use Rattle.boards.specs.Formed.{Formed}
 use Rattle.boards.specs.Calls.{Stand}
-use Rattle.boards.proofs.BoardLines.{FitsList, place_lt, place_apart, next_tried, next_holds, next_fits, long_some, tried_within, stays_tried, stays_fits, stays_held, stays_other, get_d_set_put}
+use Rattle.boards.proofs.BoardLines.{FitsList, place_apart, next_tried, next_holds, next_fits, long_some, stays_tried, stays_fits, stays_held, stays_other, get_d_set_put}
 use Rattle.boards.proofs.BoardCounts.{filling_supply}
 
 pub get_d_turned : (F : ℕ → Line → Line) → ((x : ℕ) → F x Absent ≡ Absent) → (k : ℕ) (ys : List Line) (x : ℕ) → get_or (turned F k ys) x Absent ≡ F (k + x) (get_or ys x Absent)

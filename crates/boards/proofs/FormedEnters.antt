@@ -1,20 +1,19 @@
 -- A new round, and a slip more.
-use Rattle.std.proofs.Common.{◌≡◌, ℕ, zero, suc, ◌+◌, ◌<◌, ◌≤◌, Bool, true, false, not, eqb, ltb, leb, ◌⊎◌, List, [], ◌∷◌, ◌++◌, length, get_or, set, replicate, is_some, Some, None, Ok, Err, Option, Result, sym, refl, ap, ◌∙◌, subst, inl, inr, arith, length-append}
+use Rattle.std.proofs.Common.{◌≡◌, ℕ, zero, suc, ◌+◌, ◌<◌, ◌≤◌, Bool, true, false, not, leb, List, [], ◌∷◌, length, get_or, replicate, is_some, Some, None, Ok, Err, Option, Result, sym, refl, ap, ◌∙◌, subst, inl, inr, arith}
 use mathlib.Core.Path.{fun_ext}
 use Rattle.std.proofs.lemmas.List.{length-set, length-replicate}
-use Rattle.std.proofs.lemmas.Bool.Decides.{nat_tests}
-use Rattle.std.proofs.lemmas.Bool.{cases_Bool, cases_eq, both_ways, leb-false, ltb-true}
+use Rattle.std.proofs.lemmas.Bool.{cases_eq, both_ways, leb-false, ltb-true}
 use Rattle.sheets.specs.declared.fault.Fault.{Fault}
 use Rattle.sheets.specs.declared.fault.Refusal.TheVariants.{Unknown, Twice}
 use Rattle.sheets.specs.Faults.{fault}
 use Rattle.sheets.specs.Slips.{taken_apart}
-use Rattle.sharing.specs.Rules.{at, lanes, places, kept, sum_to, Meaning, Lawful}
-use Rattle.sharing.specs.Sums.{sum_same, sum_mono}
+use Rattle.sharing.specs.Rules.{at, lanes, sum_to, Meaning, Lawful}
+use Rattle.sharing.specs.Sums.{sum_same}
 use Rattle.books.specs.Lanes.{has, distinct, all_below}
 use Rattle.books.specs.Contents.{Contents, lane_of, ranking_of}
 use Rattle.books.specs.Laid.{Laid, shed_of, first_lane}
 use Rattle.matching.specs.Offers.{Offers, offered, supply_of, chosen}
-use Rattle.matching.specs.Vectors.{Listed, put, offers}
+use Rattle.matching.specs.Vectors.{put}
 use Rattle.matching.specs.Stands.{Stands}
 use Rattle.matching.specs.Theorems.{Fits}
 use Rattle.matching.proofs.Wishes.{put_here, put_there, put_all}

@@ -1,32 +1,29 @@
 -- Who has to go: the search finds the only lot that is not kept, and its line and the applicant's are all that change.
-use Rattle.std.proofs.Common.{◌≡◌, ℕ, zero, suc, ◌+◌, ◌-◌, ◌<◌, ◌≤◌, Bool, true, false, cond, not, ◌&&◌, ◌||◌, eqb, ltb, ◌⊎◌, List, [], ◌∷◌, map, length, get_or, set, Some, None, count_by, Option, sym, refl, ap, ◌∙◌, subst, inl, inr, arith}
-use mathlib.Core.Path.{fun_ext}
-use Rattle.std.specs.List.{range_with_len}
+use Rattle.std.proofs.Common.{◌≡◌, ℕ, zero, suc, ◌+◌, ◌<◌, ◌≤◌, Bool, true, false, cond, eqb, ltb, List, [], ◌∷◌, length, get_or, set, Some, None, Option, sym, refl, ap, ◌∙◌, subst, inl, inr, arith}
 use Rattle.std.proofs.lemmas.List.{ext_get_or, length-set, get_or_past, get_or-set_same, get_or-set_other}
 use Rattle.std.proofs.lemmas.List.FromFn.{get_or-map-range_with_len, length-map-range_with_len}
 use Rattle.std.proofs.lemmas.List.Sums.{sum_by-set}
 use Rattle.std.proofs.lemmas.Bool.Decides.{nat_tests}
-use Rattle.std.proofs.lemmas.Bool.{cases_lt, cases_Bool, cases_eq, both_ways, eqb-true, eq-eqb, ne_eqb, lt-ltb, le-ltb, ltb-true}
+use Rattle.std.proofs.lemmas.Bool.{cases_lt, cases_Bool, cases_eq, both_ways, eqb-true, eq-eqb, ne_eqb, lt-ltb, le-ltb}
 use Rattle.sharing.specs.Rules.{at, lanes, Meaning, Lawful}
 use Rattle.books.specs.Lanes.{has, distinct}
 use Rattle.books.specs.Contents.{Contents, lane_of, ranking_of}
 use Rattle.books.specs.Laid.{Laid, shed_of, first_lane}
-use Rattle.books.proofs.Laid.{lane_at_place, lane_stands}
-use Rattle.matching.specs.Offers.{Offers, asking, best, offered, supply_of, chosen, cleared}
-use Rattle.matching.proofs.Best.{best_ranked, best_short}
+use Rattle.books.proofs.Laid.{lane_stands}
+use Rattle.matching.specs.Offers.{Offers, asking, best, offered, chosen, cleared}
+use Rattle.matching.proofs.Best.{best_short}
 use Rattle.matching.proofs.Sheds.{few_on_card, supply_on}
 use Rattle.matching.proofs.Wishes.{put_here, put_there}
 use Rattle.boards.specs.declared.line.Line.{Line}
-use Rattle.boards.specs.declared.line.Line.TheVariants.{Absent, Looking, Held, Spent}
+use Rattle.boards.specs.declared.line.Line.TheVariants.{Absent, Looking, Held}
 use Rattle.boards.specs.declared.line.Event.TheVariants.{Taken, Dropped, TurnedAway}
-use Rattle.boards.specs.Lines.{place, next, noted, holds, looks, tried_of, wishes_of}
-use Rattle.boards.specs.Slips.{Lists, list_at}
+use Rattle.boards.specs.Lines.{next, noted, holds, looks, tried_of}
 use Rattle.boards.specs.Boards.{Board, line_of, wishes, holding, held, filling, keeps, stays, turned, leaves, leaver}
 use Rattle.boards.specs.Formed.{Formed}
 use Rattle.boards.specs.Calls.{Claims}
-use Rattle.boards.specs.Searches.{one_more_at, supplied, beyond, first_of, beyond_at, beyond_shed, note_in, moved}
+use Rattle.boards.specs.Searches.{supplied, beyond, first_of, beyond_at, note_in, moved}
 use Rattle.boards.proofs.BoardLines.{place_apart, stays_all, stays_dropped, leaves_held, leaves_yes}
-use Rattle.boards.proofs.FormedApplies.{room, looks_in, wish_in, free, seated, claims, all_claims, claims_ranked, same_supply, keeps_here, keeps_there, get_d_turned_0, length_turned}
+use Rattle.boards.proofs.FormedApplies.{room, looks_in, wish_in, seated, claims, all_claims, claims_ranked, same_supply, keeps_here, keeps_there, get_d_turned_0, length_turned}
 use Rattle.boards.proofs.CallsRun.{claim_known, same_pair}
 
 -- along a ranking

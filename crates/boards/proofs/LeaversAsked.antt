@@ -1,6 +1,6 @@
 -- A lot that asks a lane, and what the code learns of the lane.
-use Rattle.std.proofs.Common.{◌≡◌, ℕ, zero, suc, ◌+◌, ◌-◌, ◌<◌, ◌≤◌, Bool, true, false, cond, ltb, ◌⊎◌, List, [], ◌∷◌, map, length, get_or, take, set, Some, None, count_by, Option, sym, refl, ap, ◌∙◌, subst, inl, inr, arith}
-use Rattle.std.specs.List.{range_with_len, slice_get}
+use Rattle.std.proofs.Common.{◌≡◌, ℕ, zero, suc, ◌+◌, ◌<◌, ◌≤◌, Bool, true, false, ltb, List, [], ◌∷◌, length, set, Some, None, Option, sym, refl, ap, ◌∙◌, subst, inl, inr, arith}
+use Rattle.std.specs.List.{slice_get}
 use Rattle.std.specs.Option.{option_map}
 use Rattle.std.proofs.lemmas.List.{get_or_past}
 use Rattle.std.proofs.lemmas.Option.{slice_get-get_or}
@@ -14,7 +14,7 @@ use Rattle.sharing.specs.Sums.{on_card_at}
 use Rattle.books.specs.Lanes.{has, Entry}
 use Rattle.books.specs.Contents.{Contents, lane_of, no_entry, no_shed, ranking_of}
 use Rattle.books.specs.Laid.{shed_of, first_lane}
-use Rattle.matching.specs.Offers.{Offers, asking}
+use Rattle.matching.specs.Offers.{asking}
 use Rattle.matching.proofs.Wishes.{below_at}
 use Rattle.boards.specs.declared.line.Line.{Line}
 use Rattle.boards.specs.declared.line.Line.TheVariants.{Absent, Looking, Held, Spent}
@@ -23,7 +23,7 @@ use Rattle.boards.specs.Slips.{list_at}
 use Rattle.boards.specs.Boards.{Board, line_of, wishes, holding, held, filling, leaver, keeps}
 use Rattle.boards.specs.Formed.{Formed}
 use Rattle.boards.specs.Searches.{supplied, beyond, first_of, beyond_at, next_wish, goes}
-use Rattle.boards.proofs.FormedApplies.{room, looks_in, wish_in, free}
+use Rattle.boards.proofs.FormedApplies.{looks_in, wish_in, free}
 use Rattle.boards.proofs.Leavers.{first_same, supplied_is, search_finds}
 
 nth_at : (xs : List ℕ) (n h : ℕ) → slice_get xs n ≡ Some h → at xs n ≡ h

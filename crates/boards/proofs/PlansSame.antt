@@ -1,14 +1,11 @@
 -- The same accepted slips give the same plan, and its count is what the lists say.
-use Rattle.std.proofs.Common.{◌≡◌, ℕ, zero, suc, ◌+◌, ◌-◌, ◌<◌, ◌≤◌, Bool, true, false, eqb, ◌⊎◌, List, [], ◌∷◌, ◌++◌, length, get_or, is_some, Some, None, Option, sym, refl, ap, ◌∙◌, subst, inl, inr, arith}
+use Rattle.std.proofs.Common.{◌≡◌, ℕ, zero, suc, ◌<◌, Bool, true, false, List, [], ◌∷◌, ◌++◌, length, Some, None, Option, sym, refl, ap, ◌∙◌, subst, inl, inr}
 use mathlib.Core.Path.{fun_ext}
 use Rattle.std.proofs.lemmas.List.{get_or_past}
-use Rattle.std.proofs.lemmas.Bool.Decides.{nat_tests}
-use Rattle.std.proofs.lemmas.Bool.{cases_lt, cases_Bool, both_ways, eqb-true, eq-eqb}
-use Rattle.sharing.specs.declared.card.Card.{Card}
-use Rattle.sharing.specs.Cards.{Terms, terms}
-use Rattle.sharing.specs.Rules.{at, lanes, on_card, sum_to, Row, Meaning, Lawful, Alike}
+use Rattle.std.proofs.lemmas.Bool.{cases_lt, both_ways, eqb-true, eq-eqb}
+use Rattle.sharing.specs.Cards.{Terms}
+use Rattle.sharing.specs.Rules.{at, on_card, Row, Meaning, Lawful, Alike}
 use Rattle.sharing.specs.Sums.{on_card_at, sum_same}
-use Rattle.books.specs.Lanes.{has}
 use Rattle.books.specs.Contents.{Contents, lane_of, no_entry, ranking_of}
 use Rattle.books.specs.Laid.{Laid, shed_of}
 use Rattle.matching.specs.Offers.{Offers, best, supply_of, chosen}
@@ -18,13 +15,13 @@ use Rattle.matching.proofs.Sheds.{supply_small}
 use Rattle.matching.proofs.Orders.{orders_do_not_matter}
 use Rattle.boards.specs.declared.line.Line.{Line}
 use Rattle.boards.specs.declared.line.Line.TheVariants.{Absent, Looking, Held, Spent}
-use Rattle.boards.specs.Lines.{place, holds, looks, tried_of, wishes_of, fits_list}
+use Rattle.boards.specs.Lines.{holds, looks, tried_of, wishes_of, fits_list}
 use Rattle.boards.specs.Slips.{Lists, list_at}
-use Rattle.boards.specs.Boards.{Board, line_of, wishes, holding, tried, all_wishes, settle}
+use Rattle.boards.specs.Boards.{Board, line_of, holding, tried, all_wishes}
 use Rattle.boards.specs.Formed.{Formed}
-use Rattle.boards.specs.Calls.{Call, after, accepted, Stand, Quiet}
+use Rattle.boards.specs.Calls.{Call, after, accepted, Quiet}
 use Rattle.boards.specs.Stable.{on}
-use Rattle.boards.specs.Plans.{lane_in, placing, count_word, lot_words, plan_words, settled, plan_of, tried_places, SamePlan, CountIsPlaces}
+use Rattle.boards.specs.Plans.{lane_in, placing, count_word, lot_words, settled, tried_places, SamePlan, CountIsPlaces}
 use Rattle.boards.proofs.CallsRun.{every_run, settle_keeps, settle_lists, settled_quiet, settles_least, held_known}
 
 -- rules that answer alike choose alike

@@ -1,18 +1,15 @@
 -- Every plan is stable.
-use Rattle.std.proofs.Common.{◌≡◌, ℕ, zero, suc, ◌+◌, ◌-◌, ◌<◌, ◌≤◌, min, Bool, true, false, cond, eqb, ltb, ◌⊎◌, List, [], ◌∷◌, map, length, get_or, take, is_some, Some, None, Option, sym, refl, ap, ◌∙◌, subst, inl, inr, arith}
-use mathlib.Core.Path.{fun_ext}
-use Rattle.std.specs.List.{range_with_len}
+use Rattle.std.proofs.Common.{◌≡◌, ℕ, zero, suc, ◌+◌, ◌<◌, ◌≤◌, Bool, true, false, cond, eqb, ltb, List, [], ◌∷◌, length, Option, sym, refl, ap, ◌∙◌, subst, inl, inr, arith}
 use Rattle.std.proofs.lemmas.Bool.Decides.{nat_tests}
-use Rattle.std.proofs.lemmas.Bool.{cases_lt, cases_Bool, cases_eq, both_ways, eqb-true, eq-eqb, ne_eqb, lt-ltb, le-ltb}
-use Rattle.sharing.specs.declared.card.Card.{Card}
-use Rattle.sharing.specs.Cards.{Terms, terms}
-use Rattle.sharing.specs.Rules.{at, lanes, places, kept, sum_to, gains, Row, Small, Meaning, Lawful, NoGainOnCard}
+use Rattle.std.proofs.lemmas.Bool.{cases_lt, cases_Bool, cases_eq, both_ways, eqb-true, eq-eqb, ne_eqb}
+use Rattle.sharing.specs.Cards.{Terms}
+use Rattle.sharing.specs.Rules.{at, lanes, places, kept, gains, Row, Small, Meaning, Lawful, NoGainOnCard}
 use Rattle.sharing.specs.Sums.{sum_same}
 use Rattle.books.specs.Lanes.{has, distinct}
 use Rattle.books.specs.Contents.{Contents, lane_of, ranking_of}
-use Rattle.books.specs.Laid.{Laid, shed_of, first_lane}
-use Rattle.books.proofs.Laid.{lane_at_place, lane_stands}
-use Rattle.matching.specs.Offers.{Offers, best, offered, supply_of, chosen}
+use Rattle.books.specs.Laid.{shed_of, first_lane}
+use Rattle.books.proofs.Laid.{lane_at_place}
+use Rattle.matching.specs.Offers.{Offers, best, offered, supply_of}
 use Rattle.matching.specs.Vectors.{offers}
 use Rattle.matching.proofs.Best.{offered_same, best_ranked, best_short}
 use Rattle.matching.proofs.Sheds.{Rule, shed_rule, supply_on, supply_small, chosen_at}
@@ -24,12 +21,12 @@ use Rattle.boards.specs.Slips.{Lists, list_at}
 use Rattle.boards.specs.Boards.{Board, line_of, wishes, holding, tried}
 use Rattle.boards.specs.Formed.{Formed}
 use Rattle.boards.specs.Calls.{Stand, Quiet, accepted}
-use Rattle.boards.specs.Stable.{Placing, on, lots_on, holds_on, filling_on, above, RanksHigher, Excuse, Excused, Stable}
+use Rattle.boards.specs.Stable.{Placing, on, lots_on, holds_on, filling_on, above, Excuse, Stable}
 use Rattle.boards.specs.Plans.{lane_in, placing, settled, StablePlan}
 use Rattle.boards.proofs.BoardCounts.{up_to, up_to_ranking, map_same}
 use Rattle.boards.proofs.BoardLines.{place_lt, place_apart, held_on_list, none_empty}
 use Rattle.boards.proofs.CallsRun.{held_known, every_run, settle_keeps}
-use Rattle.boards.proofs.PlansSame.{Ended, ended, on_holds}
+use Rattle.boards.proofs.PlansSame.{ended, on_holds}
 
 -- along a ranking, exactly as many are kept as there are places, if so many are on offer
 best_exact : (O : ℕ → Bool) (R : List ℕ) (k : ℕ) → distinct R ≡ true → k ≤ offered O R → offered (best k O R) R ≡ k

@@ -1,5 +1,5 @@
 -- Settling step by step.
-use Rattle.std.proofs.Common.{◌≡◌, ℕ, zero, suc, ◌+◌, ◌-◌, ◌<◌, ◌≤◌, List, [], Some, None, Option, sym, refl, ap, ◌∙◌, subst, arith}
+use Rattle.std.proofs.Common.{◌≡◌, ℕ, zero, suc, ◌+◌, ◌≤◌, Some, None, Option, sym, refl, ap, ◌∙◌, arith}
 use Rattle.sharing.specs.Rules.{Meaning, Lawful}
 use Rattle.boards.specs.Lines.{lowest}
 use Rattle.boards.specs.Boards.{Board, apply, settle_for, all_wishes, settle}

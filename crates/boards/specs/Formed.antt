@@ -1,6 +1,6 @@
 -- What every round has, whatever its rule: its lists are lists, its lines fit them, nothing is overfull, and the count is the
 -- wishes that were tried.
-use Rattle.std.specs.Prelude.{◌≡◌, ℕ, ◌<◌, ◌≤◌, true, false, length}
+use Rattle.std.specs.Prelude.{◌≡◌, ℕ, ◌<◌, ◌≤◌, true, length}
 use Rattle.sharing.specs.Rules.{at, kept, sum_to}
 use Rattle.books.specs.Lanes.{has, distinct, all_below}
 use Rattle.books.specs.Contents.{lane_of, ranking_of}

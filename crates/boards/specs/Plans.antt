@@ -1,5 +1,5 @@
 -- The plan of a settled round, and the laws of every plan.
-use Rattle.std.specs.Prelude.{◌≡◌, ℕ, suc, ◌+◌, ◌*◌, ◌^◌, Bool, true, false, List, [], ◌∷◌, ◌++◌, length, Some, None, Option}
+use Rattle.std.specs.Prelude.{◌≡◌, ℕ, suc, ◌+◌, ◌*◌, ◌^◌, List, [], ◌∷◌, ◌++◌, length, Some, None, Option}
 use Rattle.sharing.specs.Rules.{sum_to, Meaning, Lawful, Alike, NoGainOnCard}
 use Rattle.books.specs.Contents.{Contents}
 use Rattle.books.specs.Laid.{Laid}

@@ -5,14 +5,14 @@ use Rattle.sharing.specs.Rules.{at, lanes, Meaning}
 use Rattle.books.specs.Lanes.{has}
 use Rattle.books.specs.Contents.{Contents, lane_of, ranking_of}
 use Rattle.books.specs.Laid.{shed_of, first_lane}
-use Rattle.matching.specs.Offers.{Offers, asking}
+use Rattle.matching.specs.Offers.{Offers}
 use Rattle.boards.specs.declared.line.Line.{Line}
 use Rattle.boards.specs.declared.line.Line.TheVariants.{Absent, Looking, Held, Spent}
 use Rattle.boards.specs.declared.line.Event.{Event}
 use Rattle.boards.specs.declared.line.Event.TheVariants.{Taken, Dropped, TurnedAway}
 use Rattle.boards.specs.Lines.{noted, wishes_of}
 use Rattle.boards.specs.Slips.{Lists, list_at}
-use Rattle.boards.specs.Boards.{Board, holding, filling, keeps, leaver}
+use Rattle.boards.specs.Boards.{Board, filling, keeps, leaver}
 
 -- the place on the card of shed g of the lane that holds a lot; none where it is held elsewhere or not at all
 abbrev pub seat : Contents → ℕ → Line → Option ℕ

@@ -1,5 +1,5 @@
 -- What the words before say is what the book says, so the walk refuses a word exactly if it has a fault.
-use Rattle.std.proofs.Common.{◌≡◌, ℕ, zero, suc, ◌+◌, ◌-◌, ◌<◌, ◌≤◌, Bool, true, false, cond, not, ◌||◌, eqb, ltb, leb, List, [], ◌∷◌, ◌++◌, map, reverse, length, get_or, take, set, is_some, is_ok, Some, None, Ok, Err, sum, Option, Result, sym, refl, ap, ◌∙◌, subst, inl, inr, append_assoc, append-nil, arith, length-set}
+use Rattle.std.proofs.Common.{◌≡◌, ℕ, zero, suc, ◌+◌, ◌<◌, ◌≤◌, Bool, true, false, cond, not, ◌||◌, eqb, ltb, leb, List, [], ◌∷◌, ◌++◌, map, reverse, length, get_or, take, set, is_some, Some, None, Ok, Err, sum, Option, Result, sym, refl, ap, ◌∙◌, subst, inl, inr, append_assoc, append-nil, arith, length-set}
 use mathlib.Core.List.{reverse-cons, map-append}
 use Rattle.std.proofs.lemmas.List.{get_or-set_same, get_or-set_other, get_or_push, get_or_append_left, length_push}
 use Rattle.std.proofs.lemmas.Bool.{cases_Bool, cases_eq, cases_lt, eq-eqb, ne_eqb, eqb-false, leb-false, or_parts, not-false, both_ways}
@@ -12,15 +12,13 @@ use Rattle.sheets.specs.declared.progress.Progress.{Progress}
 use Rattle.sheets.specs.declared.word.BookWord.{BookWord}
 use Rattle.sheets.specs.declared.word.BookWord.TheVariants.{Shed, Lane, Rank, Next}
 use Rattle.sheets.specs.Faults.{standing, fault}
-use Rattle.sheets.specs.Progress.{admits}
 use Rattle.sheets.specs.Words.{book_word}
-use Rattle.sheets.proofs.Admits.{shed_admitted, lane_admitted, lot_admitted}
 use Rattle.sharing.specs.Cards as cards
-use Rattle.books.specs.Contents.{Contents, last_terms, last_shed, no_shed, no_entry, with_shed, with_lane, with_record, with_lot, lane_of, ranked_entry, recorded_entry}
+use Rattle.books.specs.Contents.{Contents, last_terms, last_shed, no_entry, with_shed, with_lane, with_record, with_lot, lane_of, ranked_entry, recorded_entry}
 use Rattle.books.specs.Faulty.{is_shed, is_lane, is_rank, ranks_lane, names_lot, targets_in, any_of, count_of, since, nearest_cap, misplaced, too_many, unknown, twice, overtargeted, wrong, faulty, strange_only, HasFault, FirstFault}
 use Rattle.books.specs.Lanes.{Entry, has}
 use Rattle.books.proofs.Distinct.{has_push}
-use Rattle.books.proofs.Walks.{last_of_shed, last_of_lane, one_test, two_tests}
+use Rattle.books.proofs.Walks.{last_of_shed, last_of_lane}
 use Rattle.books.specs.Opening.{Reading, progress_of, noted, before, judge, taken, walk, unread, opening, answered}
 
 -- the words before, the nearest first, and what was read of them

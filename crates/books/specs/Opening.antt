@@ -1,5 +1,5 @@
 -- The meaning of a book sheet: a walk over its words.
-use Rattle.std.specs.Prelude.{◌≡◌, ℕ, suc, Bool, true, false, List, [], ◌∷◌, length, is_some, Some, None, Ok, Err, Option, Result, nat_le}
+use Rattle.std.specs.Prelude.{◌≡◌, ℕ, suc, true, false, List, [], ◌∷◌, length, is_some, Some, None, Ok, Err, Option, Result, nat_le}
 use Rattle.sheets.specs.declared.fault.Refusal.{Refusal}
 use Rattle.sheets.specs.declared.fault.Refusal.TheVariants.{Strange, Misplaced, Unknown, Twice, Overtargeted}
 use Rattle.sheets.specs.declared.fault.Fault.{Fault}

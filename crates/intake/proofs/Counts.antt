@@ -9,7 +9,7 @@ use Rattle.boards.specs.Boards.{Board, begun, slip_of, entered}
 use Rattle.boards.specs.Calls.{entered_lots}
 use Rattle.boards.specs.Slips.{Lists, list_at, list_of}
 use Rattle.boards.proofs.FormedEnters.{entering_ok}
-use Rattle.days.specs.Input.{Day, day_of, in_day}
+use Rattle.days.specs.Input.{Day, day_of}
 use Rattle.intake.specs.Slips.{cut, in_day_at, enter_all, LotForEachSlip}
 
 one : Option (List ℕ) → ℕ

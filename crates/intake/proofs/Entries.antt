@@ -16,7 +16,7 @@ use Rattle.books.specs.Opening.{opening, left}
 use Rattle.boards.specs.Boards.{Board, begun, slip_of, entered, enter, lot_of}
 use Rattle.boards.specs.Calls.{enters, calls, after, Reached, EveryRun}
 use Rattle.boards.specs.Slips.{Lists, list_at, wished, wishes_from, entering}
-use Rattle.days.specs.Input.{Day, day_of, in_day, book_in}
+use Rattle.days.specs.Input.{Day, day_of, book_in}
 use Rattle.intake.specs.Slips.{cut, in_day_at, enter_all, EntersSlips}
 use Rattle.intake.proofs.Cuts.{Next}
 

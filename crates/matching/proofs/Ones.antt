@@ -1,7 +1,7 @@
 -- One lot more at lanes that hold no more than they may: at most one is not kept, and the rest is within bounds again.
-use Rattle.std.proofs.Common.{◌≡◌, ℕ, zero, suc, ◌+◌, ◌<◌, ◌≤◌, min, Bool, true, false, ◌&&◌, ◌||◌, eqb, ltb, ◌⊎◌, List, length, sym, refl, ap, ◌∙◌, subst, inl, inr, arith}
+use Rattle.std.proofs.Common.{◌≡◌, ℕ, zero, suc, ◌+◌, ◌<◌, ◌≤◌, Bool, true, false, ◌⊎◌, List, length, sym, refl, ap, ◌∙◌, subst, inl, inr, arith}
 use Rattle.std.proofs.lemmas.Bool.Decides.{nat_tests}
-use Rattle.std.proofs.lemmas.Bool.{cases_lt, cases_Bool, cases_eq, both_ways, eqb-true, eq-eqb, ne_eqb}
+use Rattle.std.proofs.lemmas.Bool.{cases_lt, cases_Bool, cases_eq, eqb-true, eq-eqb, ne_eqb}
 use Rattle.sharing.specs.Rules.{at, lanes, places, kept, sum_to, Small, Meaning, Lawful}
 use Rattle.sharing.specs.Sums.{sum_mono, sum_same, sum_less}
 use Rattle.books.specs.Lanes.{has}
@@ -11,7 +11,7 @@ use Rattle.books.proofs.Laid.{lane_at_place, lane_stands}
 use Rattle.matching.specs.Offers.{Offers, asking, best, offered, supply_of, chosen, cleared}
 use Rattle.matching.specs.Theorems.{Fits, AtMostOneGoes, ClearingFits}
 use Rattle.matching.proofs.Best.{offered_same, offered_one, best_short, best_short_two, best_few, best_ranked}
-use Rattle.matching.proofs.Sheds.{Rule, shed_rule, supply_on, supply_small, chosen_at}
+use Rattle.matching.proofs.Sheds.{Rule, shed_rule, supply_on, supply_small}
 
 -- one summand larger by one
 pub sum_one : (f g : ℕ → ℕ) (n r : ℕ) → r < n → f r ≡ suc (g r) → ((j : ℕ) → j < n → (j ≡ r → ⊥) → f j ≡ g j) → sum_to f n ≡ suc (sum_to g n)

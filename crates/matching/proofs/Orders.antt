@@ -1,5 +1,5 @@
 -- Why the order of slips and applications does not matter. Nothing here knows cards, caps or words.
-use Rattle.std.proofs.Common.{◌≡◌, ℕ, zero, suc, ◌+◌, ◌-◌, ◌<◌, ◌≤◌, Bool, true, false, ◌&&◌, ◌||◌, eqb, ltb, ◌⊎◌, List, [], ◌∷◌, length, take, sym, refl, ap, ◌∙◌, subst, inl, inr, arith}
+use Rattle.std.proofs.Common.{◌≡◌, ℕ, suc, ◌-◌, ◌<◌, ◌≤◌, true, false, ◌⊎◌, List, [], length, take, sym, refl, ap, ◌∙◌, subst, inl, inr, arith}
 use mathlib.Core.Path.{fun_ext}
 use Rattle.std.proofs.lemmas.Bool.Decides.{nat_tests}
 use Rattle.std.proofs.lemmas.Bool.{cases_lt, cases_Bool, cases_eq, both_ways, eqb-true, eq-eqb}
@@ -10,7 +10,7 @@ use Rattle.matching.specs.Choosing.{Within, Choosing}
 use Rattle.matching.specs.Vectors.{Listed, put, offers, Closed, Least}
 use Rattle.matching.specs.Stands.{Stands}
 use Rattle.matching.specs.Theorems.{BeginningStands, EnteringStands, ApplyingStands, OthersStay, ApplyingLeavesOthers, SettledIsLeast, OrdersDoNotMatter}
-use Rattle.matching.proofs.Wishes.{has_take_at, has_take_le, has_take_more, below_at, offers_within, put_here, put_there, put_all}
+use Rattle.matching.proofs.Wishes.{has_take_at, has_take_more, below_at, offers_within, put_here, put_there, put_all}
 
 -- a choice of nothing
 chosen_none : (n : ℕ) (home : ℕ → ℕ) (R : ℕ → List ℕ) (C : Offers → Offers) → Choosing n home R C → (O : Offers) (l i : ℕ) → O l i ≡ false → C O l i ≡ false

@@ -1,20 +1,18 @@
 -- What the lanes of a shed choose, from the laws of the rule.
-use Rattle.std.proofs.Common.{◌≡◌, ℕ, zero, suc, ◌+◌, ◌<◌, ◌≤◌, min, Bool, true, false, eqb, ltb, ◌⊎◌, List, map, length, get_or, sym, refl, ap, ◌∙◌, subst, inl, inr, arith, length-take}
-use Rattle.std.specs.List.{range_with_len}
+use Rattle.std.proofs.Common.{◌≡◌, ℕ, ◌+◌, ◌<◌, ◌≤◌, min, Bool, true, false, ltb, List, length, sym, ap, ◌∙◌, subst, inl, inr, arith, length-take}
 use Rattle.std.proofs.lemmas.List.{get_or_past}
 use Rattle.std.proofs.lemmas.List.FromFn.{get_or-map-range_with_len, length-map-range_with_len}
-use Rattle.std.proofs.lemmas.Bool.{cases_lt, lt-ltb, ltb-false}
+use Rattle.std.proofs.lemmas.Bool.{cases_lt, lt-ltb}
 use Rattle.sharing.specs.declared.card.Card.{Card}
 use Rattle.sharing.specs.Cards.{Terms, terms}
-use Rattle.sharing.specs.Rules.{at, lanes, places, kept, sum_to, Row, Small, Meaning, Lawful}
+use Rattle.sharing.specs.Rules.{at, lanes, places, kept, Small, Meaning, Lawful}
 use Rattle.sharing.specs.Sums.{sum_less}
-use Rattle.books.specs.Lanes.{has}
 use Rattle.books.specs.Contents.{Contents, lane_of, ranking_of}
 use Rattle.books.specs.Laid.{Laid, shed_of, first_lane}
 use Rattle.books.proofs.Distinct.{distinct_short}
 use Rattle.books.proofs.Laid.{lane_at_place, lane_stands}
 use Rattle.matching.specs.Offers.{Offers, best, offered, supply_of, chosen}
-use Rattle.matching.specs.Choosing.{Within, Choosing}
+use Rattle.matching.specs.Choosing.{Choosing}
 use Rattle.matching.specs.Theorems.{LanesChoose}
 use Rattle.matching.proofs.Best.{offered_le, offered_length, best_offered, best_ranked, best_less, best_all, best_same, best_room}
 

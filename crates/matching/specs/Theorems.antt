@@ -1,7 +1,7 @@
 -- The theorems of the theory.
 use Rattle.std.specs.Prelude.{◌≡◌, ℕ, suc, ◌-◌, ◌<◌, ◌≤◌, true, false, List, [], length, ◌≢◌}
-use Rattle.sharing.specs.Rules.{at, lanes, kept, Meaning, Lawful}
-use Rattle.books.specs.Lanes.{has, distinct, all_below}
+use Rattle.sharing.specs.Rules.{at, kept, Meaning, Lawful}
+use Rattle.books.specs.Lanes.{has}
 use Rattle.books.specs.Contents.{Contents, lane_of, ranking_of}
 use Rattle.books.specs.Laid.{Laid, shed_of}
 use Rattle.matching.specs.Offers.{Offers, asking, offered, supply_of, chosen, cleared}

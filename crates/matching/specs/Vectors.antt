@@ -1,5 +1,5 @@
 -- How many wishes each lot has tried, and when nobody has to try another.
-use Rattle.std.specs.Prelude.{◌≡◌, ℕ, zero, suc, ◌-◌, ◌<◌, ◌≤◌, Bool, true, false, List, [], ◌∷◌, length, take, ◌==◌}
+use Rattle.std.specs.Prelude.{◌≡◌, ℕ, ◌-◌, ◌<◌, ◌≤◌, true, false, List, length, take, ◌==◌}
 use Rattle.sharing.specs.Rules.{at}
 use Rattle.books.specs.Lanes.{has, distinct, all_below}
 use Rattle.matching.specs.Offers.{Offers}

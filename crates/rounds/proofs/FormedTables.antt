@@ -1,8 +1,6 @@
 -- What the type of a table says, as what every round has.
-use Rattle.std.proofs.Common.{◌≡◌, ℕ, ◌<◌, ◌≤◌, true, false, List, map, length, Option, sym, subst}
-use Rattle.books.specs.Contents.{contents}
+use Rattle.std.proofs.Common.{◌≡◌, sym, subst}
 use Rattle.books.proofs.Laid.{book_laid}
-use Rattle.matching.specs.Theorems.{Fits}
 use Rattle.rounds.specs.declared.table.Table.{Table}
 use Rattle.boards.specs.Boards.{Board}
 use Rattle.boards.specs.Formed.{Formed, Lists, Lines, Ranked, LanesWithin, ShedsWithin, Counted}

@@ -1,12 +1,12 @@
 -- The laws of a rule that lines its places up, once for every order.
-use Rattle.std.specs.Prelude.{◌≡◌, ℕ, ◌+◌, ◌<◌, ◌≤◌, min, Bool, true, false, not, ◌&&◌, ◌||◌, List, ◌==◌, nat_le, refl}
-use Rattle.std.proofs.Common.{sym, ap, subst, ◌∙◌, inl, inr, arith}
+use Rattle.std.specs.Prelude.{◌≡◌, ℕ, ◌+◌, ◌<◌, ◌≤◌, min, false, not, ◌||◌, List, ◌==◌, nat_le}
+use Rattle.std.proofs.Common.{◌∙◌, inl, inr, arith}
 use Rattle.std.proofs.lemmas.Bool.{cases_Bool, cases_lt, both_ways, and_parts, or_parts, not-true, eqb-false, leb-false}
 use Rattle.sharing.specs.declared.card.Card.{Card}
 use Rattle.sharing.specs.Cards.{Terms, terms}
-use Rattle.sharing.specs.LineUp.{line_up, rule_of, Front, deal}
+use Rattle.sharing.specs.LineUp.{line_up, rule_of, Front}
 use Rattle.sharing.specs.Orders.{Standing, Open, Ordered}
-use Rattle.sharing.specs.Rules.{at, lanes, places, sum_to, kept, no_move, gains, Row, Small, Lawful, NoGainOnCard}
+use Rattle.sharing.specs.Rules.{at, lanes, places, kept, no_move, gains, Lawful, NoGainOnCard}
 use Rattle.sharing.specs.Fronts.{dealt_front, dealt_line_up}
 use Rattle.sharing.specs.Within.{lanes_are_few}
 use Rattle.sharing.specs.Sums.{sum_same, sum_other}

@@ -1,7 +1,6 @@
 -- A rule that is none: all to the longest queue.
-use Rattle.std.specs.Prelude.{ℕ, ◌+◌, ◌-◌, min, Bool, true, false, cond, ◌&&◌, ◌||◌, List, map, ◌==◌, nat_lt}
+use Rattle.std.specs.Prelude.{ℕ, ◌-◌, min, Bool, false, cond, ◌&&◌, ◌||◌, List, map, ◌==◌, nat_lt}
 use Rattle.std.specs.List.{range_with_len}
-use Rattle.sharing.specs.Cards.{Terms}
 use Rattle.sharing.specs.Rules.{at, lanes, places, sum_to, Meaning, Lawful}
 
 -- lane h comes before lane l if its supply is larger, or as large and it is the earlier lane

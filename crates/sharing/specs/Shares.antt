@@ -1,6 +1,6 @@
 -- By shares: the place with the smaller part of its lane's capacity beyond the target comes first, and of equals that of
 -- the earlier lane.
-use Rattle.std.specs.Prelude.{ℕ, ◌+◌, ◌*◌, Bool, ◌&&◌, ◌||◌, ◌==◌, nat_le, nat_lt}
+use Rattle.std.specs.Prelude.{ℕ, ◌+◌, ◌*◌, ◌&&◌, ◌||◌, ◌==◌, nat_le, nat_lt}
 use Rattle.sharing.specs.Cards.{Terms}
 use Rattle.sharing.specs.Orders.{Standing}
 use Rattle.sharing.specs.Rules.{at}

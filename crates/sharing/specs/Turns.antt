@@ -1,6 +1,5 @@
 -- By turns: the place with the smaller number beyond its target comes first, and of equals that of the earlier lane.
-use Rattle.std.specs.Prelude.{ℕ, ◌+◌, Bool, ◌&&◌, ◌||◌, ◌==◌, nat_le, nat_lt}
-use Rattle.sharing.specs.Cards.{Terms}
+use Rattle.std.specs.Prelude.{◌+◌, ◌&&◌, ◌||◌, ◌==◌, nat_le, nat_lt}
 use Rattle.sharing.specs.Orders.{Standing}
 use Rattle.sharing.specs.Rules.{at}
 

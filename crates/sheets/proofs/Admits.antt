@@ -1,6 +1,5 @@
 -- What an admitted word says of how far the sheet has come.
-use Rattle.std.proofs.Common.{◌≡◌, ℕ, ◌<◌, ◌≤◌, Bool, true, false, ◌||◌, eqb, leb, is_ok, inl, inr, arith}
-use Rattle.std.proofs.lemmas.Bool.{cases_Bool}
+use Rattle.std.proofs.Common.{◌≡◌, ◌<◌, true, false, is_ok, arith}
 use Rattle.std.proofs.lemmas.Bool.Decides.{nat_tests}
 use Rattle.sheets.specs.declared.progress.Progress.{Progress}
 use Rattle.sheets.specs.Progress.{admits_shed, admits_lane, admits_lot}

@@ -1,8 +1,7 @@
 -- What the reader hands out.
-use Rattle.std.specs.Prelude.{ℕ, suc, ◌+◌, Bool, true, false, List, [], ◌∷◌, length, take, Some, None, Ok, Err, Option, Result, ◌==◌}
+use Rattle.std.specs.Prelude.{ℕ, suc, true, false, List, [], ◌∷◌, length, take, Some, None, Ok, Err, Option, Result, ◌==◌}
 use Rattle.std.specs.Option.{option_map}
 use Rattle.sheets.specs.declared.fault.Fault.{Fault}
-use Rattle.sheets.specs.declared.fault.Refusal.TheVariants.{Misplaced, Strange}
 use Rattle.sheets.specs.declared.progress.Progress.{Progress}
 use Rattle.sheets.specs.declared.reader.Part.{Part}
 use Rattle.sheets.specs.Progress.{judged, run_length, run_progress}

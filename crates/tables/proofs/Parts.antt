@@ -1,12 +1,12 @@
 -- Numbers between marks.
-use Rattle.std.proofs.Common.{◌≡◌, ℕ, Bool, true, false, ◌&&◌, ◌||◌, leb, ◌⊎◌, List, [], ◌∷◌, Some, None, Option, sym, refl, ap, ◌∙◌, inl, inr, arith}
+use Rattle.std.proofs.Common.{◌≡◌, ℕ, true, false, ◌&&◌, leb, ◌⊎◌, List, [], ◌∷◌, Some, None, Option, sym, refl, ap, ◌∙◌, inl, inr, arith}
 use Rattle.std.proofs.lemmas.Bool.{cases_Bool}
 use Rattle.std.proofs.lemmas.Bool.Decides.{nat_tests}
 use Rattle.tables.specs.declared.cut.Mark.{Mark}
-use Rattle.tables.specs.declared.cut.Mark.TheVariants.{Blank, Slash, Arrow}
+use Rattle.tables.specs.declared.cut.Mark.TheVariants.{Slash, Arrow}
 use Rattle.tables.specs.declared.question.LaneWord.{LaneWord}
 use Rattle.tables.specs.declared.question.Move.{Move}
-use Rattle.tables.specs.Cuts.{marks, has, longer, pieces}
+use Rattle.tables.specs.Cuts.{marks, longer, pieces}
 use Rattle.tables.specs.Numbers.{digit, digits, value, number}
 use Rattle.tables.specs.Questions.{lane_of, move_of}
 use Rattle.tables.proofs.Pieces.{pieces_mark, pieces_other}

@@ -1,5 +1,5 @@
 -- What an answer tells of the lanes on the card.
-use Rattle.std.proofs.Common.{◌≡◌, ℕ, ◌<◌, ◌≤◌, min, true, false, ltb, List, length, get_or, take, Some, None, Option, sym, ap, ◌∙◌, arith, length-take}
+use Rattle.std.proofs.Common.{◌≡◌, ℕ, ◌<◌, ◌≤◌, min, true, false, ltb, List, length, take, Some, None, Option, sym, ap, ◌∙◌, arith, length-take}
 use Rattle.std.proofs.lemmas.List.FromFn.{length-map-range_with_len}
 use Rattle.std.proofs.lemmas.List.{take_all, get_or-take}
 use Rattle.std.proofs.lemmas.Bool.{lt-ltb, le-ltb}
@@ -12,7 +12,6 @@ use Rattle.sharing.specs.Shares.{shares}
 use Rattle.sharing.specs.Turns.{turns}
 use Rattle.tables.specs.declared.answer.Answer.{Answer}
 use Rattle.tables.specs.declared.answer.Gain.{Gain}
-use Rattle.tables.specs.declared.answer.Kept.{Kept}
 use Rattle.tables.specs.Answers.{gained, answered}
 use Rattle.tables.specs.Questions.{Asked}
 use Rattle.tables.specs.Told.{tells, kept_at}

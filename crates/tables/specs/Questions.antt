@@ -1,5 +1,5 @@
 -- What a line asks, and the first fault of a line that is no question.
-use Rattle.std.specs.Prelude.{ℕ, ◌+◌, Bool, true, false, List, [], ◌∷◌, replicate, Some, None, Ok, Err, sum, Option, Result, nat_le, nat_lt, slice_set}
+use Rattle.std.specs.Prelude.{ℕ, ◌+◌, true, false, List, [], ◌∷◌, replicate, Some, None, Ok, Err, sum, Option, Result, nat_le, nat_lt, slice_set}
 use Rattle.sharing.specs.Cards.{Terms, terms, more_terms}
 use Rattle.sharing.specs.Rules.{lanes}
 use Rattle.tables.specs.declared.complaint.Complaint.{Complaint}

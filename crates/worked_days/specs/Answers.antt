@@ -1,5 +1,5 @@
 -- Worked cases, over the definitions that the contracts cite.
-use Rattle.std.specs.Prelude.{◌≡◌, ℕ, Bool, true, false, List, [], ◌∷◌}
+use Rattle.std.specs.Prelude.{◌≡◌, ℕ, true, false, [], ◌∷◌}
 use Rattle.sharing.specs.Cards.{Terms}
 use Rattle.sharing.specs.LineUp.{rule_of}
 use Rattle.sharing.specs.Rules.{gains}

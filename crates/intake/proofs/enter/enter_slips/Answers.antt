@@ -3,7 +3,6 @@ use Rattle.sheets.specs.declared.reader.Part.{Part}
 use Rattle.sheets.specs.Records.{page, next_slip}
 use Rattle.boards.specs.Boards.{Board}
 use Rattle.rounds.specs.Tables.{board}
-use Rattle.days.specs.Input.{in_day}
 use Rattle.intake.specs.Slips.{cut, in_day_at, enter_all}
 use Rattle.intake.proofs.Cuts.{Next, next_slip_is, no_slip}
 use Rattle.intake.proofs.Entries.{refused_within, slip_refused, slip_entered}

@@ -1,4 +1,4 @@
-use Rattle.std.proofs.Common.{◌≡◌, ◌+◌, ◌-◌, ◌<◌, sym, ap, ◌∙◌, arith, length-set}
+use Rattle.std.proofs.Common.{◌≡◌, ◌+◌, ◌-◌, sym, ap, ◌∙◌, arith, length-set}
 use Rattle.sharing.specs.Cards.{terms}
 use Rattle.sharing.specs.LineUp.{deal}
 use Rattle.sharing.specs.Rules.{at}

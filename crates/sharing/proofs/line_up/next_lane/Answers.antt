@@ -1,4 +1,4 @@
-use Rattle.std.proofs.Common.{◌≡◌, suc, ◌+◌, ◌<◌, ◌≤◌, sym, ap, ◌∙◌, add-one, arith}
+use Rattle.std.proofs.Common.{◌≡◌, sym, ap, ◌∙◌, add-one, arith}
 use Rattle.sharing.specs.LineUp.{picked, pick}
 use Rattle.sharing.specs.Cards.{terms}
 use Rattle.sharing.specs.Rules.{lanes}

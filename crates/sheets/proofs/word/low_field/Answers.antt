@@ -1,4 +1,3 @@
-use Rattle.std.proofs.Common.{◌/◌, ◌^◌}
 use Rattle.std.proofs.lemmas.Nat.{and_mask}
 use Rattle.sheets.proofs.word.low_field.Goals as goal
 

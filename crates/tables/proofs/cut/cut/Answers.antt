@@ -1,4 +1,4 @@
-use Rattle.std.proofs.Common.{◌≡◌, ◌+◌, ◌-◌, ◌∷◌, length, take, drop, sym, refl, ap, ◌∙◌, add-one, arith, length-drop, length-take, rules, below_more}
+use Rattle.std.proofs.Common.{◌≡◌, ◌+◌, ◌-◌, ◌∷◌, length, take, drop, sym, ap, ◌∙◌, add-one, arith, length-drop, below_more}
 use Rattle.std.proofs.lemmas.List.{take_all}
 use Rattle.tables.specs.Cuts.{pieces}
 use Rattle.tables.proofs.Pieces.{pieces_found, pieces_none, has_found, has_none}

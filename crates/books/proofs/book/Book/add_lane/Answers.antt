@@ -1,12 +1,12 @@
-use Rattle.std.proofs.Common.{◌≡◌, ℕ, ◌+◌, ◌-◌, ◌<◌, ◌≤◌, true, false, not, [], ◌∷◌, ◌++◌, length, get_or, take, set, Some, None, sym, refl, ap, ◌∙◌, subst, arith, length-take, rules}
+use Rattle.std.proofs.Common.{◌≡◌, ℕ, ◌+◌, ◌-◌, ◌<◌, ◌≤◌, false, not, [], ◌∷◌, ◌++◌, length, get_or, set, sym, refl, ap, ◌∙◌, subst, arith, length-take, rules}
 use Rattle.std.proofs.lemmas.Bool.Decides.{nat_tests}
 use Rattle.std.specs.Option.{option_map}
 use Rattle.sharing.specs.declared.card.Card.{Card}
-use Rattle.sharing.specs.Cards.{Terms, terms, overtargeted, unfit, more_terms, with_lane}
+use Rattle.sharing.specs.Cards.{Terms, terms, overtargeted, unfit, more_terms}
 use Rattle.sharing.proofs.Lanes.{at_set, lane_refused, lane_taken}
 use Rattle.books.specs.declared.book.Book.{Book}
-use Rattle.books.specs.Lanes.{no_lane, blank_lane, entry, lane_at, Ranks, lanes_on, Stands}
-use Rattle.books.specs.Contents.{Contents, contents, last_shed, last_terms, no_shed}
+use Rattle.books.specs.Lanes.{no_lane, entry, lane_at, Ranks, lanes_on, Stands}
+use Rattle.books.specs.Contents.{contents, last_shed, last_terms, no_shed}
 use Rattle.books.proofs.Edits.{shown_push, shown_set, shown_at, sheds_length}
 use Rattle.books.proofs.Standing.{sum_last, one_lane_more, lanes_at, stands_on, stands_new, sum_written}
 use Rattle.books.proofs.book.Book.add_lane.Goals as goal

@@ -1,6 +1,6 @@
-use Rattle.std.proofs.Common.{◌≡◌, map, take, set, sym, ap, ◌∙◌, rules}
-use Rattle.books.specs.Lanes.{entry, no_lane}
-use Rattle.books.specs.Contents.{Contents, contents, no_entry, recorded_entry}
+use Rattle.std.proofs.Common.{map, take, set, sym, ap, ◌∙◌, rules}
+use Rattle.books.specs.Lanes.{entry}
+use Rattle.books.specs.Contents.{Contents, contents, recorded_entry}
 use Rattle.books.proofs.Edits.{shown_set, lane_of_known}
 use Rattle.books.proofs.book.Book.begin_record.Goals as goal
 

@@ -1,4 +1,4 @@
-use Rattle.std.proofs.Common.{◌≡◌, ◌<◌, sym, refl, subst, arith}
+use Rattle.std.proofs.Common.{sym, refl, subst, arith}
 use Rattle.std.proofs.lemmas.List.{get_or-replicate}
 use Rattle.books.specs.Lanes.{no_lane, blank_lane, Ranks}
 use Rattle.books.proofs.book.Book.new.Goals as goal

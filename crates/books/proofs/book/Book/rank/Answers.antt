@@ -1,9 +1,9 @@
-use Rattle.std.proofs.Common.{◌≡◌, ℕ, ◌+◌, ◌<◌, ◌≤◌, true, false, List, [], ◌∷◌, ◌++◌, map, length, take, set, sym, ap, ◌∙◌, subst, arith, length-set, length-take, rules}
+use Rattle.std.proofs.Common.{◌≡◌, ℕ, ◌+◌, ◌<◌, true, false, [], ◌∷◌, ◌++◌, map, take, set, sym, ap, ◌∙◌, subst, arith, length-set, length-take, rules}
 use Rattle.std.proofs.lemmas.List.{take_more_set}
 use Rattle.sharing.proofs.Lanes.{at_set}
 use Rattle.books.specs.declared.lane.Lane.{Lane}
 use Rattle.books.specs.Lanes.{entry, no_lane, lane_at, has, distinct, all_below, longer_lane, Ranks, Stands}
-use Rattle.books.specs.Contents.{Contents, contents, lane_of, no_entry, ranked_entry}
+use Rattle.books.specs.Contents.{Contents, contents, ranked_entry}
 use Rattle.books.proofs.Distinct.{distinct_room, distinct_push, below_push}
 use Rattle.books.proofs.Edits.{shown_set, lane_of_known}
 use Rattle.books.proofs.book.Book.rank.Goals as goal

@@ -1,6 +1,5 @@
 use Rattle.std.proofs.Common.{sym, refl, subst}
 use Rattle.books.proofs.Laid.{book_laid}
-use Rattle.boards.specs.Boards.{Board}
 use Rattle.boards.specs.Calls.{applies, AtMostOneGoes}
 use Rattle.rounds.specs.Tables.{board}
 use Rattle.boards.proofs.CallsRun.{goes_on, one_goes}

@@ -1,6 +1,5 @@
 use Rattle.std.proofs.Common.{ℕ, ◌*◌, ◌≤◌, sym, refl, subst}
 use Rattle.books.proofs.Laid.{book_laid}
-use Rattle.boards.specs.Boards.{Board}
 use Rattle.boards.specs.Calls.{settles, Quiet, SettlesLeast, entered_lots}
 use Rattle.rounds.specs.Tables.{board}
 use Rattle.boards.proofs.CallsRun.{goes_on, settled_quiet, settles_least, settle_few}

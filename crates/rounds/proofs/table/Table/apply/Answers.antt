@@ -1,4 +1,4 @@
-use Rattle.std.proofs.Common.{◌≡◌, ℕ, suc, ◌+◌, ◌<◌, ◌≤◌, List, Some, Ok, Err, Option, Result, sym, refl, ap, ◌∙◌, arith, rules}
+use Rattle.std.proofs.Common.{◌≡◌, ℕ, suc, ◌+◌, Some, Ok, Err, Option, Result, sym, ap, ◌∙◌, arith, rules}
 use Rattle.sheets.specs.declared.fault.Fault.{Fault}
 use Rattle.sharing.specs.Rules.{Meaning, Lawful}
 use Rattle.books.specs.Contents.{contents}
@@ -6,7 +6,7 @@ use Rattle.rounds.specs.declared.lots.Lots.{Lots}
 use Rattle.rounds.specs.declared.table.Table.{Table}
 use Rattle.boards.specs.declared.outcome.Outcome.{Outcome}
 use Rattle.boards.specs.Slips.{lists_of}
-use Rattle.boards.specs.Boards.{Board, line_of, wishes, outcome, application, outcome_of, board_of, apply}
+use Rattle.boards.specs.Boards.{line_of, wishes, outcome, application, outcome_of, board_of, apply}
 use Rattle.boards.specs.Searches.{next_wish, moved, goes}
 use Rattle.rounds.specs.Tables.{board}
 use Rattle.boards.proofs.AppliesTo.{gone, applies, idle, applies_below, count_few}

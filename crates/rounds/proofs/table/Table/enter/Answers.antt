@@ -1,12 +1,10 @@
-use Rattle.std.proofs.Common.{◌≡◌, ℕ, ◌<◌, ◌≤◌, List, [], map, length, get_or, set, is_some, Some, Ok, Err, Option, Result, sym, refl, ap, ◌∙◌, arith, rules}
+use Rattle.std.proofs.Common.{◌≡◌, ℕ, length, Some, Ok, Err, Result, sym, ap, ◌∙◌, rules}
 use Rattle.std.specs.Option.{option_map}
 use Rattle.std.proofs.lemmas.List.{map-set}
 use Rattle.sheets.specs.declared.fault.Fault.{Fault}
 use Rattle.books.specs.Contents.{contents}
-use Rattle.books.proofs.Laid.{book_laid}
-use Rattle.boards.specs.declared.wishes.Wishes.{Wishes}
-use Rattle.boards.specs.Slips.{list_of, lists_of, wishes_from}
-use Rattle.boards.specs.Boards.{Board, entered, lot_of, slip_of, enter}
+use Rattle.boards.specs.Slips.{list_of, lists_of}
+use Rattle.boards.specs.Boards.{entered, lot_of, slip_of, enter}
 use Rattle.rounds.specs.Tables.{board}
 use Rattle.boards.proofs.BoardLists.{slip_unknown, slip_read}
 use Rattle.boards.proofs.FormedEnters.{entered_formed}

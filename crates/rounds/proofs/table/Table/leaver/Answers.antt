@@ -1,16 +1,16 @@
-use Rattle.std.proofs.Common.{◌≡◌, ℕ, ◌+◌, ◌-◌, ◌<◌, ◌≤◌, Bool, true, false, List, length, get_or, set, Some, None, sym, refl, ap, ◌∙◌, subst, arith, rules}
-use Rattle.sharing.specs.Cards.{Terms, terms}
-use Rattle.sharing.specs.Rules.{at, lanes}
+use Rattle.std.proofs.Common.{◌≡◌, ℕ, ◌+◌, ◌-◌, ◌<◌, true, List, length, set, Some, sym, ap, ◌∙◌, subst, arith}
+use Rattle.sharing.specs.Cards.{terms}
+use Rattle.sharing.specs.Rules.{at}
 use Rattle.books.specs.Lanes.{has}
-use Rattle.books.specs.Contents.{Contents, contents, lane_of, ranking_of}
+use Rattle.books.specs.Contents.{contents, lane_of, ranking_of}
 use Rattle.books.specs.Laid.{shed_of, first_lane}
 use Rattle.books.proofs.Standing.{card_lanes}
 use Rattle.books.proofs.Laid.{book_laid}
 use Rattle.matching.proofs.Sheds.{few_on_card}
 use Rattle.rounds.specs.declared.table.Table.{Table}
 use Rattle.matching.specs.Offers.{asking}
-use Rattle.boards.specs.Boards.{Board, line_of, wishes, holding, filling}
-use Rattle.boards.specs.Searches.{next_wish, supplied, first_of, beyond_at, goes}
+use Rattle.boards.specs.Boards.{line_of, wishes, holding, filling}
+use Rattle.boards.specs.Searches.{next_wish, supplied, first_of, beyond_at}
 use Rattle.rounds.specs.Tables.{board}
 use Rattle.rounds.proofs.FormedTables.{formed}
 use Rattle.boards.proofs.LeaversAsked.{wish_of, asked_known, lane_says, lane_there, card_says, card_there, filling_few, found}

@@ -1,9 +1,8 @@
-use Rattle.std.proofs.Common.{◌≡◌, length, replicate, sym, ap, ◌∙◌}
+use Rattle.std.proofs.Common.{ap, ◌∙◌}
 use Rattle.books.specs.Contents.{contents}
 use Rattle.books.proofs.Laid.{book_laid}
-use Rattle.rounds.specs.declared.lots.Lots.{Lots}
 use Rattle.boards.specs.Slips.{lists_of}
-use Rattle.boards.specs.Boards.{Board, begun}
+use Rattle.boards.specs.Boards.{begun}
 use Rattle.boards.proofs.BoardLists.{lists_none}
 use Rattle.boards.proofs.FormedEnters.{begun_formed}
 use Rattle.rounds.proofs.FormedTables.{facts_of}

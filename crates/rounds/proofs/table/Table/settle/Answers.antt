@@ -1,4 +1,4 @@
-use Rattle.std.proofs.Common.{◌≡◌, ℕ, suc, ◌+◌, ◌-◌, ◌<◌, ◌≤◌, Some, None, sym, refl, ap, ◌∙◌, arith, rules}
+use Rattle.std.proofs.Common.{◌≡◌, ℕ, suc, ◌-◌, ◌<◌, Some, sym, ap, ◌∙◌, arith}
 use Rattle.sharing.specs.Rules.{Meaning, Lawful}
 use Rattle.rounds.specs.declared.table.Table.{Table}
 use Rattle.boards.specs.Lines.{lowest}

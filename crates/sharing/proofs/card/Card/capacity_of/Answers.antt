@@ -1,4 +1,4 @@
-use Rattle.std.proofs.Common.{◌≡◌, sym, ◌∙◌, arith}
+use Rattle.std.proofs.Common.{sym, ◌∙◌, arith}
 use Rattle.sharing.specs.Within.{capacity_is, off_card}
 use Rattle.sharing.proofs.card.Card.capacity_of.Goals as goal
 

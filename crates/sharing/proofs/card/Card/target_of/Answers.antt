@@ -1,4 +1,4 @@
-use Rattle.std.proofs.Common.{◌≡◌, sym, ◌∙◌, arith}
+use Rattle.std.proofs.Common.{sym, ◌∙◌, arith}
 use Rattle.sharing.specs.Within.{target_is, target_off}
 use Rattle.sharing.proofs.card.Card.target_of.Goals as goal
 

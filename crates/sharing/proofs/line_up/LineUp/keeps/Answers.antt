@@ -1,4 +1,4 @@
-use Rattle.std.proofs.Common.{◌≡◌, ◌≤◌, length, replicate, sym, ap, ◌∙◌, subst, arith, rules}
+use Rattle.std.proofs.Common.{◌≡◌, length, replicate, sym, ap, ◌∙◌, subst, arith, rules}
 use Rattle.sharing.specs.Cards.{terms}
 use Rattle.sharing.specs.LineUp.{Front, deal}
 use Rattle.sharing.specs.Rules.{on_card}

@@ -1,4 +1,4 @@
-use Rattle.std.proofs.Common.{◌≡◌, ◌+◌, sym, refl, ◌∙◌, arith, rules}
+use Rattle.std.proofs.Common.{sym, refl, ◌∙◌, arith, rules}
 use Rattle.sheets.proofs.Runs.{run_past, run_stop, run_more}
 use Rattle.sheets.proofs.reader.Reader.goes_on.Goals as goal
 

@@ -1,4 +1,4 @@
-use Rattle.std.proofs.Common.{◌≡◌, sym, ap, ◌∙◌}
+use Rattle.std.proofs.Common.{sym, ap, ◌∙◌}
 use Rattle.tables.specs.Numbers.{number}
 use Rattle.tables.proofs.Parts.{lane, lane_none, lane_parts}
 use Rattle.tables.proofs.question.LaneWord.read.Goals as goal

@@ -1,4 +1,4 @@
-use Rattle.std.proofs.Common.{◌≡◌, sym, ap, ◌∙◌}
+use Rattle.std.proofs.Common.{sym, ap, ◌∙◌}
 use Rattle.tables.specs.Numbers.{number}
 use Rattle.tables.proofs.Parts.{step, step_none, move_parts}
 use Rattle.tables.proofs.question.Move.read.Goals as goal

@@ -1,4 +1,4 @@
-use Rattle.std.proofs.Common.{◌≡◌, ℕ, ◌<◌, ap, arith}
+use Rattle.std.proofs.Common.{◌≡◌, ap, arith}
 use Rattle.books.proofs.Edits.{lanes_length, same_lanes}
 use Rattle.books.proofs.book.opening.Opening.note_record.Goals as goal
 

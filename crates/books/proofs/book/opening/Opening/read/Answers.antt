@@ -6,7 +6,7 @@ use Rattle.sheets.specs.declared.progress.Progress.{Progress}
 use Rattle.sheets.specs.declared.reader.Part.{Part}
 use Rattle.sheets.specs.Records.{Page, page, size, next_record, record_progress}
 use Rattle.sheets.proofs.Passes.{Handed, handed}
-use Rattle.books.specs.Opening.{Reading, reading, progress_of, walk, unread, opening, answered}
+use Rattle.books.specs.Opening.{Reading, reading, progress_of, walk, opening, answered}
 use Rattle.books.specs.Contents.{Contents, contents}
 use Rattle.books.specs.Faulty.{FirstFault}
 use Rattle.books.proofs.Faults.{first_fault}

@@ -1,9 +1,9 @@
-use Rattle.std.proofs.Common.{◌≡◌, Err, sym, ap, ◌∙◌}
+use Rattle.std.proofs.Common.{Err, sym, ap, ◌∙◌}
 use Rattle.sheets.specs.declared.fault.Refusal.TheVariants.{Strange}
 use Rattle.sheets.specs.Faults.{fault}
 use Rattle.sheets.specs.Words.{book_word}
 use Rattle.sheets.proofs.Passes.{some_from_ok}
-use Rattle.books.specs.Opening.{reading, noted, walk}
+use Rattle.books.specs.Opening.{reading, noted}
 use Rattle.books.proofs.Walks.{refused_outcome, outcome_refused, word_refused}
 use Rattle.books.proofs.book.opening.Opening.read_word.Goals as goal
 
