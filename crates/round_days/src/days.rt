@@ -66,7 +66,7 @@ pub(crate) fn by_shares(sheet: &[u32]) -> Result<Round<ShareRule>, Fail> {
 }
 
 // A call on a round and what it answers, or what the round says.
-#[derive(Clone, Copy)]
+#[derive(Clone, Copy, Debug)]
 pub(crate) enum Step<'a> {
     // a slip is accepted, and its lot is answered
     Enters(&'a [u32], u8),
@@ -125,22 +125,22 @@ pub(crate) fn makes<R: SharingRule>(
 ) -> Result<(), Fail> {
     match step {
         Step::Enters(slip, lot) => {
-            assert_eq!(rt; round.enter(slip), Ok(lot));
+            assert_eq!(rt; round.enter(slip), Ok(lot), "{step:?}");
             Ok(())
         },
         Step::Refuses(slip, fault) => is_fault(rt, round.enter(slip).err(), fault),
         Step::Applies(lot, outcome, line) => applies(rt, round, lot, outcome, line),
         Step::Idle(lot) => is_idle(rt, round, lot),
         Step::Settles(applications) => {
-            assert_eq!(rt; round.settle(), applications);
+            assert_eq!(rt; round.settle(), applications, "{step:?}");
             Ok(())
         },
         Step::Says(lot, line) => {
-            assert_eq!(rt; round.line(lot), line);
+            assert_eq!(rt; round.line(lot), line, "{step:?}");
             Ok(())
         },
         Step::Counts(count) => {
-            assert_eq!(rt; round.count(), count);
+            assert_eq!(rt; round.count(), count, "{step:?}");
             Ok(())
         },
     }

@@ -54,10 +54,10 @@ module _ (s : Standing) (o : Ordered s) where
             let p2 = or_parts (a == b || nat_le (lanes c) a) (nat_le (lanes c) b) p3.0 in
             let p1 = or_parts (a == b) (nat_le (lanes c) a) p2.0 in
             let apart = eqb-false a b p1.0 in
-            let stands_on_card : a < lanes c = leb-false (lanes c) a p1.1 in
+            let on-card : a < lanes c = leb-false (lanes c) a p1.1 in
             let some : 0 < at k a = let z = eqb-false (at k a) 0 p3.1 in omega (arith, z) in
-            let stands = f.first a b (at k a) (at k b + 1) stands_on_card h (omega arith) (omega arith) (omega arith) (omega arith) in
-            absurd (both_ways (s.before c a (at k a) b (at k b + 1)) (o.gain_before c a (at k a) b (at k b) (omega (arith, f.inside a stands_on_card)) (omega arith) apart some parts.1) stands)
+            let stands = f.first a b (at k a) (at k b + 1) on-card h (omega arith) (omega arith) (omega arith) (omega arith) in
+            absurd (both_ways (s.before c a (at k a) b (at k b + 1)) (o.gain_before c a (at k a) b (at k b) (omega (arith, f.inside a on-card)) (omega arith) apart some parts.1) stands)
       ]
 
   on_a_card : (c : Card) (x : List ℕ) → Front s (terms c) x (line_up s (terms c) x)

@@ -39,7 +39,7 @@ pub(crate) fn refused(
 ) -> Result<(), Fail> {
     let fault = Fault::new(refusal, place);
     assert_eq!(rt; fault.layer(), layer);
-    assert_eq!(rt; opened(sheet), (Err(fault), 0, 0));
+    assert_eq!(rt; opened(sheet), (Err(fault), 0, 0), "sheet {sheet:?}");
     Ok(())
 }
 
