@@ -2,8 +2,8 @@
 use Rattle.std.specs.Prelude.{◌≡◌, ℕ, zero, suc, ◌+◌, ◌<◌, ◌≤◌, Bool, true, false, cond, ◌&&◌, ltb, List, map, Some, None, Option, nat_lt, slice_set}
 use Rattle.std.specs.List.{range_with_len}
 use Rattle.sharing.specs.Cards.{Terms}
-use Rattle.sharing.specs.Orders.{Standing}
-use Rattle.sharing.specs.Rules.{at, lanes, places, sum_to, kept, Meaning}
+use Rattle.sharing.specs.Orders.{Standing, Ordered}
+use Rattle.sharing.specs.Rules.{at, lanes, places, sum_to, kept, Meaning, NoGainOnCard}
 
 -- how many of the numbers 1 to n pass
 abbrev pub count_to : (ℕ → Bool) → ℕ → ℕ
@@ -49,3 +49,7 @@ pick s c x k (suc n) = picked s c x k n (pick s c x k n)
 abbrev pub deal : Standing → Terms → List ℕ → ℕ → List ℕ → List ℕ
 deal s c x zero k = k
 deal s c x (suc n) k = elim (pick s c x k (lanes c)) [ None ↦ k | Some b ↦ deal s c x n (slice_set k b (at k b + 1)) ]
+
+-- no line-up gains by moving a lot to a lane that keeps fewer than it has places, at any filling with the numbers of its choice
+abbrev pub LineUpsDoNotGain : Type 0
+LineUpsDoNotGain = (s : Standing) → Ordered s → NoGainOnCard (rule_of s)

@@ -5,6 +5,7 @@ pub mod card;
 pub mod line_up;
 pub mod longest;
 pub mod make;
+pub mod no_gain;
 pub mod order;
 pub mod rule;
 pub mod shares;
