@@ -28,7 +28,7 @@ OTHER = {
     'few-sheds': 'sheds_are_few',
     'capacity-small': 'capacity_is_small',
 }
-# names that the first script had respelled already, where one of the above would fall together with them
+# names that the kit's port.py had respelled already, where one of the above would fall together with them
 MOVED = {'crates/books/proofs/Laid.antt': {'first_lane': 'first_lane_counts'}}
 
 

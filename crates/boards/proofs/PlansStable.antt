@@ -3,7 +3,7 @@ use Rattle.std.proofs.Common.{◌≡◌, ℕ, zero, suc, ◌+◌, ◌<◌, ◌�
 use Rattle.std.proofs.lemmas.Bool.Decides.{nat_tests}
 use Rattle.std.proofs.lemmas.Bool.{cases_lt, cases_Bool, cases_eq, both_ways, eqb-true, eq-eqb, ne_eqb}
 use Rattle.sharing.specs.Cards.{Terms}
-use Rattle.sharing.specs.Rules.{at, lanes, places, kept, gains, Row, Small, Meaning, Lawful, NoGainOnCard}
+use Rattle.sharing.specs.Rules.{at, lanes, places, kept, gains, Row, Small, Meaning, Lawful, NoGainAtFillings}
 use Rattle.sharing.specs.Sums.{sum_same}
 use Rattle.books.specs.Lanes.{has, distinct}
 use Rattle.books.specs.Contents.{Contents, lane_of, ranking_of}
@@ -101,7 +101,7 @@ above_other (Looking n) xs k e h = refl
 above_other (Held l) xs k e h = elim (cases_Bool (eqb l (at xs k))) [ inl q ↦ absurd (omega (arith, ap (place xs) (eqb-true l (at xs k) q))) | inr q ↦ q ]
 above_other Spent xs k e h = refl
 
-module _ (m : Meaning) (law : Lawful m) (front : NoGainOnCard m) (t : Board) (v : Formed t) (stand : Stand m t) (quiet : Quiet t) where
+module _ (m : Meaning) (law : Lawful m) (front : NoGainAtFillings m) (t : Board) (v : Formed t) (stand : Stand m t) (quiet : Quiet t) where
   abbrev c : Contents
   c = t.book
 

@@ -1,6 +1,6 @@
 -- The plan of a settled round, and the laws of every plan.
 use Rattle.std.specs.Prelude.{◌≡◌, ℕ, suc, ◌+◌, ◌*◌, ◌^◌, List, [], ◌∷◌, ◌++◌, length, Some, None, Option}
-use Rattle.sharing.specs.Rules.{sum_to, Meaning, Lawful, Alike, NoGainOnCard}
+use Rattle.sharing.specs.Rules.{sum_to, Meaning, Lawful, Alike, NoGainAtFillings}
 use Rattle.books.specs.Contents.{Contents}
 use Rattle.books.specs.Laid.{Laid}
 use Rattle.boards.specs.declared.line.Line.{Line}
@@ -59,9 +59,10 @@ abbrev pub SamePlan : Type 0
 SamePlan =
     (c : Contents) (m n : Meaning) → Laid c → Lawful m → Lawful n → Alike m n → (ks js : List Call) → accepted c ks ≡ accepted c js → plan_of c m ks ≡ plan_of c n js
 
--- every plan is stable, under a rule that gains nothing at any filling with the numbers of its choice
+-- every plan is stable, under a rule by which no shed gains by moving a lot to a lane that keeps fewer than it has places, at any
+-- filling with the numbers of the choice
 abbrev pub StablePlan : Type 0
-StablePlan = (c : Contents) (m : Meaning) → Laid c → Lawful m → NoGainOnCard m → (ks : List Call) → Stable c m (accepted c ks) (placing (settled c m ks))
+StablePlan = (c : Contents) (m : Meaning) → Laid c → Lawful m → NoGainAtFillings m → (ks : List Call) → Stable c m (accepted c ks) (placing (settled c m ks))
 
 -- the count of applications is the sum over the entered lots of the place of the lot's lane on its list, or of the list's length
 abbrev pub CountIsPlaces : Type 0

@@ -12,7 +12,7 @@ use sheets::fault::Fault;
 use sheets::reader::Reader;
 
 // A fault of words that stand in the input from a place on, at its place in the input.
-fn in_day(fault: Fault, place: usize) -> Fault
+fn in_day_at(fault: Fault, place: usize) -> Fault
     requires { place + fault.place < 2 ^ 64 }
     ensures { result ≡ in_day_at place fault }
 {
@@ -33,7 +33,7 @@ fn enter_slips<R: SharingRule + Drop>(
     let mut reader = Reader::new(slips);
     while let Some(slip) = reader.next_slip() {
         if let Err(fault) = round.enter(slip.words) {
-            return Err(in_day(fault, place + slip.place));
+            return Err(in_day_at(fault, place + slip.place));
         }
     }
     Ok(round)

@@ -84,14 +84,20 @@ pub(crate) enum Step<'a> {
     Counts(u32),
 }
 
-// There is a fault, with this number, place and layer.
-fn is_fault(rt: &impl Abort, told: Option<Fault>, fault: (u8, usize, Layer)) -> Result<(), Fail> {
+// The step tells of a fault, with this number, place and layer.
+fn is_fault(
+    rt: &impl Abort,
+    step: Step<'_>,
+    told: Option<Fault>,
+    fault: (u8, usize, Layer),
+) -> Result<(), Fail> {
     let Some(told) = told else {
         return Err(Fail::new("no refusal"));
     };
     assert_eq!(rt;
         (told.refusal().number(), told.place(), told.layer()),
-        fault
+        fault,
+        "{step:?}"
     );
     Ok(())
 }
@@ -102,19 +108,12 @@ pub(crate) fn is_idle<R: SharingRule>(
     round: &mut Round<R>,
     lot: usize,
 ) -> Result<(), Fail> {
-    is_fault(rt, round.apply(lot).err(), (8, 0, Layer::Round))
-}
-
-fn applies<R: SharingRule>(
-    rt: &impl Abort,
-    round: &mut Round<R>,
-    lot: usize,
-    outcome: Outcome,
-    line: Line,
-) -> Result<(), Fail> {
-    assert_eq!(rt; round.apply(lot), Ok(outcome));
-    assert_eq!(rt; round.line(lot), line);
-    Ok(())
+    is_fault(
+        rt,
+        Step::Idle(lot),
+        round.apply(lot).err(),
+        (8, 0, Layer::Round),
+    )
 }
 
 // The call answers so, or the round says so.
@@ -128,8 +127,12 @@ pub(crate) fn makes<R: SharingRule>(
             assert_eq!(rt; round.enter(slip), Ok(lot), "{step:?}");
             Ok(())
         },
-        Step::Refuses(slip, fault) => is_fault(rt, round.enter(slip).err(), fault),
-        Step::Applies(lot, outcome, line) => applies(rt, round, lot, outcome, line),
+        Step::Refuses(slip, fault) => is_fault(rt, step, round.enter(slip).err(), fault),
+        Step::Applies(lot, outcome, line) => {
+            assert_eq!(rt; round.apply(lot), Ok(outcome), "{step:?}");
+            assert_eq!(rt; round.line(lot), line, "{step:?}");
+            Ok(())
+        },
         Step::Idle(lot) => is_idle(rt, round, lot),
         Step::Settles(applications) => {
             assert_eq!(rt; round.settle(), applications, "{step:?}");

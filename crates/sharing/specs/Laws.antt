@@ -6,7 +6,7 @@ use Rattle.sharing.specs.declared.card.Card.{Card}
 use Rattle.sharing.specs.Cards.{Terms, terms}
 use Rattle.sharing.specs.LineUp.{line_up, rule_of, Front}
 use Rattle.sharing.specs.Orders.{Standing, Open, Ordered}
-use Rattle.sharing.specs.Rules.{at, lanes, places, kept, no_move, gains, Lawful, NoGainOnCard}
+use Rattle.sharing.specs.Rules.{at, lanes, places, kept, no_move, gains, Lawful, NoGainAtFillings}
 use Rattle.sharing.specs.Fronts.{dealt_front, dealt_line_up}
 use Rattle.sharing.specs.Within.{lanes_are_few}
 use Rattle.sharing.specs.Sums.{sum_same, sum_other}
@@ -71,6 +71,6 @@ module _ (s : Standing) (o : Ordered s) where
     no_gain = λ c x small a b h room. gainless (terms c) x (line_up s (terms c) x) (on_a_card c x) a b h room;
   }
 
-  -- and that of no gain holds at any filling that has the numbers of the choice on the card
-  pub no_gain_on_card : NoGainOnCard (rule_of s)
-  no_gain_on_card = λ c x w small row same a b h room. gainless (terms c) x w (front_like s (terms c) x (line_up s (terms c) x) w (on_a_card c x) same) a b h (omega (arith, same b h))
+  -- and no gain holds at every filling that has the numbers of the choice on the card
+  pub no_gain_at_fillings : NoGainAtFillings (rule_of s)
+  no_gain_at_fillings = λ c x w small row same a b h room. gainless (terms c) x w (front_like s (terms c) x (line_up s (terms c) x) w (on_a_card c x) same) a b h (omega (arith, same b h))

@@ -3,7 +3,7 @@ use Rattle.std.specs.Prelude.{◌≡◌, ℕ, zero, suc, ◌+◌, ◌<◌, ◌�
 use Rattle.std.specs.List.{range_with_len}
 use Rattle.sharing.specs.Cards.{Terms}
 use Rattle.sharing.specs.Orders.{Standing, Ordered}
-use Rattle.sharing.specs.Rules.{at, lanes, places, sum_to, kept, Meaning, NoGainOnCard}
+use Rattle.sharing.specs.Rules.{at, lanes, places, sum_to, kept, Meaning, NoGainAtFillings}
 
 -- how many of the numbers 1 to n pass
 abbrev pub count_to : (ℕ → Bool) → ℕ → ℕ
@@ -50,6 +50,7 @@ abbrev pub deal : Standing → Terms → List ℕ → ℕ → List ℕ → List 
 deal s c x zero k = k
 deal s c x (suc n) k = elim (pick s c x k (lanes c)) [ None ↦ k | Some b ↦ deal s c x n (slice_set k b (at k b + 1)) ]
 
--- no line-up gains by moving a lot to a lane that keeps fewer than it has places, at any filling with the numbers of its choice
-abbrev pub LineUpsDoNotGain : Type 0
-LineUpsDoNotGain = (s : Standing) → Ordered s → NoGainOnCard (rule_of s)
+-- by a line-up no shed gains by moving a lot to a lane that keeps fewer than it has places, at any filling with the numbers of the
+-- choice
+abbrev pub LineUpsKeepNoGain : Type 0
+LineUpsKeepNoGain = (s : Standing) → Ordered s → NoGainAtFillings (rule_of s)

@@ -63,10 +63,10 @@ pub record Lawful (m : Meaning) : Type 0 where
   -- if lane b keeps fewer than it has places, the shed does not gain at that choice by moving one lot to it
   pub no_gain : (c : Card) (x : List ℕ) → Small (terms c) x → (a b : ℕ) → b < lanes (terms c) → at (m.choice (terms c) x) b < places (terms c) x b → gains m (terms c) (m.choice (terms c) x) a b ≡ false
 
--- no gain, at any filling that has the numbers of the choice on the card: if lane b keeps fewer than it has places, the shed
--- does not gain by moving one lot to it
-abbrev pub NoGainOnCard : Meaning → Type 0
-NoGainOnCard m = (c : Card) (x w : List ℕ) → Small (terms c) x → Row w → ((l : ℕ) → l < lanes (terms c) → at w l ≡ at (m.choice (terms c) x) l) → (a b : ℕ) → b < lanes (terms c) → at (m.choice (terms c) x) b < places (terms c) x b → gains m (terms c) w a b ≡ false
+-- no gain, at every filling that has the numbers of the choice on the card: if lane b keeps fewer than it has places, which are
+-- the smaller of its supply and its capacity, the shed does not gain by moving one lot to it
+abbrev pub NoGainAtFillings : Meaning → Type 0
+NoGainAtFillings m = (c : Card) (x w : List ℕ) → Small (terms c) x → Row w → ((l : ℕ) → l < lanes (terms c) → at w l ≡ at (m.choice (terms c) x) l) → (a b : ℕ) → b < lanes (terms c) → at (m.choice (terms c) x) b < places (terms c) x b → gains m (terms c) w a b ≡ false
 
 -- two meanings that answer every question alike
 pub record Alike (m n : Meaning) : Type 0 where

@@ -1,6 +1,6 @@
-ghost use Rattle.sharing.specs.LineUp.{LineUpsDoNotGain};
+ghost use Rattle.sharing.specs.LineUp.{LineUpsKeepNoGain};
 
 // What the stability of a plan asks of a rule beside its laws, every line-up keeps.
-pub fn line_ups_do_not_gain()
-    ensures { LineUpsDoNotGain }
+pub fn line_ups_keep_no_gain()
+    ensures { LineUpsKeepNoGain }
 {}

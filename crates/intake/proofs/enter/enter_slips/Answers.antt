@@ -39,8 +39,8 @@ overflow_add-place g c =
     let place = hand.next.place in
     omega (arith, c.requires, place, hand.within)
 
-pub in_day-requires : goal.in_day-requires
-in_day-requires g c =
+pub in_day_at-requires : goal.in_day_at-requires
+in_day_at-requires g c =
     let r = c.loop-slip.reader in
     let slips = c.args.slips.now in
     let got = c.in-Some.ensures in
@@ -62,7 +62,7 @@ returns-in-Err g c =
     let refused = (refused_within s c.in-Some.slip.words.now f c.in-Err.ensures.answer).0 in
     record {
       board =
-          ap Err (c.in_day.ensures ∙ ap (λ (k : ℕ). in_day_at (c.args.place + k) f) hand.next.place)
+          ap Err (c.in_day_at.ensures ∙ ap (λ (k : ℕ). in_day_at (c.args.place + k) f) hand.next.place)
           ∙ sym (slip_refused c.args.place r.at s slips (page c.in-Some.slip) hand.next f refused)
           ∙ c.loop-slip.invariant.2;
       rule = tt;
