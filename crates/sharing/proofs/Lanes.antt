@@ -1,7 +1,6 @@
 -- One lane more on a card.
-use Rattle.std.proofs.Common.{◌≡◌, ℕ, suc, ◌+◌, ◌<◌, ◌≤◌, true, false, ◌≢◌, List, [], ◌∷◌, length, get_or, take, drop, set, Some, None, sum, sym, refl, ap, ◌∙◌, subst, inl, inr, arith, length-drop}
-use Rattle.std.proofs.lemmas.List.{get_or-set_same, get_or-set_other, get_or-drop}
-use Rattle.std.proofs.lemmas.List.Sums.{sum_by-take-drop, sum_by-cons}
+use Rattle.std.proofs.Common.{◌≡◌, ℕ, ◌<◌, true, false, ◌≢◌, List, length, get_or, set, Some, None, sym, ap, subst, inl, inr}
+use Rattle.std.proofs.lemmas.List.{get_or-set_same, get_or-set_other}
 use Rattle.std.proofs.lemmas.Bool.{cases_eq, cases_Bool}
 use Rattle.sharing.specs.Cards.{Terms, unfit, more_terms, with_lane}
 
@@ -13,16 +12,6 @@ at_set d P xs at v k h here others =
       | inl e ↦ subst (λ j. P j (get_or (set xs at v) j d)) (sym e) (subst (P at) (sym (get_or-set_same xs at v d h)) here)
       | inr ne ↦ subst (P k) (sym (get_or-set_other xs at k v d ne)) (others k ne)
     ]
-
-sum_zeros : (xs : List ℕ) → ((k : ℕ) → k < length xs → get_or xs k 0 ≡ 0) → sum xs ≡ 0
-sum_zeros [] z = refl
-sum_zeros (x ∷ xs) z = omega (arith, sum_by-cons (λ x. x) x xs, z 0 (omega arith), sum_zeros xs (λ k h. z (suc k) (omega arith)))
-
--- places that are zero add nothing
-pub sum_front : (xs : List ℕ) (n : ℕ) → ((k : ℕ) → k < length xs → n ≤ k → get_or xs k 0 ≡ 0) → sum (take n xs) ≡ sum xs
-sum_front xs n z =
-    let none = sum_zeros (drop n xs) (λ k h. get_or-drop n xs k 0 ∙ z (n + k) (omega (arith, length-drop n xs)) (omega arith)) in
-    omega (arith, sum_by-take-drop (λ x. x) xs n, none)
 
 -- a lane that fits is added behind the others
 pub lane_added : (t : Terms) (target capacity : ℕ) → unfit t target capacity ≡ false → with_lane t target capacity ≡ Some (more_terms t target capacity)

@@ -2,6 +2,7 @@
 use Rattle.std.proofs.Common.{◌≡◌, ℕ, zero, suc, ◌≤◌, min, Bool, true, ◌&&◌, leb, List, [], ◌∷◌, get_or, refl, arith}
 use Rattle.std.proofs.lemmas.Bool.{and_parts, leb-true}
 use Rattle.sharing.specs.declared.card.Card.{Card}
+use Rattle.sharing.specs.declared.card.CardLane.{CardLane}
 use Rattle.sharing.specs.Cards.{terms}
 use Rattle.sharing.specs.Rules.{Small}
 use Rattle.sharing.specs.Longest.{LongestQueueUnlawful}
@@ -19,12 +20,6 @@ row_below (x ∷ xs) [] e (suc k) = row_below xs [] (and_parts (leb x 0) (is_row
 row_below (x ∷ xs) (y ∷ ys) e zero = leb-true x y (and_parts (leb x y) (is_row_below xs ys) e).0
 row_below (x ∷ xs) (y ∷ ys) e (suc k) = row_below xs ys (and_parts (leb x y) (is_row_below xs ys) e).1 k
 
-abbrev zeros : List ℕ
-zeros = 0 ∷ 0 ∷ 0 ∷ 0 ∷ 0 ∷ 0 ∷ 0 ∷ 0 ∷ []
-
-abbrev threes : List ℕ
-threes = 3 ∷ 3 ∷ 0 ∷ 0 ∷ 0 ∷ 0 ∷ 0 ∷ 0 ∷ []
-
 -- no number of a row is above a bound
 abbrev row_most : ℕ → List ℕ → Bool
 row_most m [] = true
@@ -35,28 +30,22 @@ row_most_is m [] e k = omega arith
 row_most_is m (x ∷ xs) e zero = leb-true x m (and_parts (leb x m) (row_most m xs) e).0
 row_most_is m (x ∷ xs) e (suc k) = row_most_is m xs (and_parts (leb x m) (row_most m xs) e).1 k
 
-off_card : (k : ℕ) → 2 ≤ k → get_or threes k 0 ≡ 0
-off_card zero h = absurd (omega arith)
-off_card (suc zero) h = absurd (omega arith)
-off_card (suc (suc k)) h = omega (arith, row_most_is 0 (0 ∷ 0 ∷ 0 ∷ 0 ∷ 0 ∷ 0 ∷ []) refl k)
+abbrev blank : CardLane
+blank = record { capacity = 0; target = 0; small = omega arith; within = omega arith }
+
+abbrev wide : CardLane
+wide = record { capacity = 3; target = 0; small = omega arith; within = omega arith }
 
 -- a cap of 2 and two lanes of capacity 3
 abbrev narrow : Card
 narrow = record {
   shed = 0;
   «cap» = 2;
-  lanes = 2;
-  capacity = threes;
-  target = zeros;
-  eight_capacities = refl;
-  eight_targets = refl;
+  lanes = record { items = wide ∷ wide ∷ []; spare = blank ∷ blank ∷ blank ∷ blank ∷ blank ∷ blank ∷ []; count = 2 };
   shed_known = omega arith;
-  few_lanes = omega arith;
   cap_small = omega arith;
-  capacity_small = λ k h. omega (arith, row_most_is 3 threes refl k);
-  target_within = λ k h. row_below zeros threes refl k;
+  few_lanes = omega arith;
   targets_fit = omega arith;
-  zero_off_card = λ k h off. off_card k off;
 }
 
 -- eight numbers of which the first two are not 0

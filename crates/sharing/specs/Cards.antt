@@ -1,6 +1,7 @@
 -- What a card says.
-use Rattle.std.specs.Prelude.{ℕ, ◌+◌, Bool, true, false, ◌||◌, List, [], ◌∷◌, ◌++◌, length, take, Some, None, sum, Option, nat_le, nat_lt}
+use Rattle.std.specs.Prelude.{ℕ, ◌+◌, Bool, true, false, ◌||◌, List, [], ◌∷◌, ◌++◌, length, map, Some, None, sum, Option, nat_le, nat_lt}
 use Rattle.sharing.specs.declared.card.Card.{Card}
+use Rattle.sharing.specs.declared.card.CardLane.{CardLane}
 
 -- the terms on which a shed's lanes share its store: the shed's number, its cap, and each lane's capacity and target
 pub record Terms : Type 0 where
@@ -9,9 +10,14 @@ pub record Terms : Type 0 where
   pub capacities : List ℕ
   pub targets : List ℕ
 
--- the terms on a card; off the card it has zeros only
+-- the terms on a card
 abbrev pub terms : Card → Terms
-terms c = record { shed = c.shed; limit = c.«cap»; capacities = take c.lanes c.capacity; targets = take c.lanes c.target }
+terms c = record {
+  shed = c.shed;
+  limit = c.«cap»;
+  capacities = map (λ (lane : CardLane). lane.capacity) c.lanes.items;
+  targets = map (λ (lane : CardLane). lane.target) c.lanes.items;
+}
 
 -- a shed without lanes
 abbrev pub empty_terms : ℕ → ℕ → Option Terms

@@ -1,21 +1,25 @@
-ghost use Rattle.std.specs.Prelude.{◌≡◌, ℕ, ◌<◌, ◌≤◌, length, sum, slice_index};
+ghost use Rattle.std.specs.Prelude.{◌<◌, ◌≤◌, length};
+ghost use Rattle.std.specs.List.{sum_by};
 
-// What a sharing rule is asked about: one shed, its cap, and the capacity and target of each of its lanes, by their
-// place on the card.
+use rows::row::Row;
+
+// A lane as it stands on a card: how many lots it may keep, and how many of them come first.
+#[derive(Clone, Copy)]
+pub struct CardLane {
+    pub capacity: u16,
+    pub target: u16,
+    ghost small: { capacity ≤ 4095 },
+    ghost within: { target ≤ capacity },
+}
+
+// What a sharing rule is asked about: one shed, its cap, and its lanes, by their place on the card.
 #[derive(Clone, Copy)]
 pub struct Card {
     pub shed: u8,
     pub cap: u16,
-    pub lanes: usize,
-    pub capacity: [u16; 8],
-    pub target: [u16; 8],
-    ghost eight_capacities: { length capacity ≡ 8 },
-    ghost eight_targets: { length target ≡ 8 },
+    pub lanes: Row<CardLane, 8>,
     ghost shed_known: { shed < 8 },
-    ghost few_lanes: { lanes ≤ 8 },
     ghost cap_small: { «cap» ≤ 4095 },
-    ghost capacity_small: { (k : ℕ) → k < 8 → slice_index capacity k ≤ 4095 },
-    ghost target_within: { (k : ℕ) → k < 8 → slice_index target k ≤ slice_index capacity k },
-    ghost targets_fit: { sum target ≤ «cap» },
-    ghost zero_off_card: { (k : ℕ) → k < 8 → lanes ≤ k → slice_index capacity k ≡ 0 },
+    ghost few_lanes: { length lanes.items ≤ 8 },
+    ghost targets_fit: { sum_by (λ lane. lane.target) lanes.items ≤ «cap» },
 }

@@ -57,7 +57,7 @@ fn better_of<O: PlaceOrder>(
     lane: usize,
     best: Option<usize>,
 ) -> Option<usize>
-    requires lane { lane < card.now.lanes }
+    requires lane { lane < length card.now.lanes.items }
     requires best { IfSome best (λ b. (b < 8) × (at taken.now b < 4095)) }
     ensures { result ≡ picked (O.PlaceOrder.standing order.now) (terms card.now) supply.now taken.now lane best }
 {
@@ -79,7 +79,7 @@ fn next_lane<O: PlaceOrder>(
     ensures room { IfSome result (λ b. (b < 8) × (at taken.now b < 4095)) }
 {
     let mut best = None;
-    for lane in 0..card.lanes {
+    for lane in 0..card.lanes.len() {
         best = better_of(order, card, supply, taken, lane, best);
     }
     best
@@ -104,8 +104,8 @@ fn is_no_move(card: &Card, filling: &[u16; 8], a: usize, b: usize) -> bool
     ensures { result ≡ no_move (terms card.now) filling.now a b }
 {
     a == b
-        || a >= card.lanes
-        || b >= card.lanes
+        || a >= card.lanes.len()
+        || b >= card.lanes.len()
         || filling[a] == 0
         || filling[b] >= card.capacity_of(b)
 }
