@@ -3,6 +3,7 @@
 use Rattle.std.specs.Prelude.{ℕ, ◌/◌, ◌%◌, ◌^◌, ◌≤◌, Bool, true, false, ◌&&◌, Some, None, Option, Result, ◌==◌}
 use Rattle.std.specs.Option.{ok_or}
 use Rattle.sheets.specs.declared.fault.Fault.{Fault}
+use Rattle.sheets.specs.declared.fault.Refusal.{Refusal}
 use Rattle.sheets.specs.declared.fault.Refusal.TheVariants.{Strange}
 use Rattle.sheets.specs.declared.word.BookWord.{BookWord}
 use Rattle.sheets.specs.declared.word.BookWord.TheVariants.{Shed, Lane, Rank, Next}
@@ -28,6 +29,14 @@ lone w = w / 2 ^ 12 % 2 ^ 16 == 0
 -- bits 27 to 24 are zero, as in a word with two fields
 abbrev pub paired : ℕ → Bool
 paired w = w / 2 ^ 24 % 2 ^ 4 == 0
+
+-- what a word says, by the meaning that one kind of input gives its words; refused as strange where it says nothing
+abbrev pub converted : {W : Type 0} → (ℕ → Option W) → ℕ → Result W Refusal
+converted meaning w = ok_or (meaning w) Strange
+
+-- the same at a place of the input
+abbrev pub read_word : {W : Type 0} → (ℕ → Option W) → ℕ → ℕ → Result W Fault
+read_word meaning w place = ok_or (meaning w) (fault Strange place)
 
 -- a word of a book sheet; none where it is strange there
 abbrev pub book_word : ℕ → Option BookWord
@@ -55,7 +64,7 @@ small (Next i) = i ≤ 4095
 
 -- the same at a place of the sheet
 abbrev pub read_book_word : ℕ → ℕ → Result BookWord Fault
-read_book_word w place = ok_or (book_word w) (fault Strange place)
+read_book_word w place = read_word book_word w place
 
 -- a word of a slip; none where it is strange there
 abbrev pub slip_word : ℕ → Option SlipWord
@@ -68,4 +77,4 @@ slip_word w =
 
 -- the same at a place of the slip
 abbrev pub read_slip_word : ℕ → ℕ → Result SlipWord Fault
-read_slip_word w place = ok_or (slip_word w) (fault Strange place)
+read_slip_word w place = read_word slip_word w place

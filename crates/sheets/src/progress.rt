@@ -2,10 +2,10 @@ ghost use Rattle.std.specs.Prelude.{◌≡◌};
 ghost use Rattle.sheets.specs.Progress.{start, admits, admits_shed, admits_lane, admits_lot, judged, goes_on};
 
 use crate::fault::{Fault, Refusal};
-use crate::word::BookWord;
+use crate::word::{BookWord, Word};
 
 // How far a book sheet has come: enough to tell a word that is out of place or one too many.
-#[derive(Clone, Copy)]
+#[derive(Clone, Copy, PartialEq, Eq, Debug, Default)]
 pub struct Progress {
     sheds: u8,
     lanes: u8,
@@ -20,12 +20,7 @@ impl Progress {
     pub fn new() -> Progress
         ensures { result ≡ start }
     {
-        Progress {
-            sheds: 0,
-            lanes: 0,
-            lanes_here: 0,
-            ranking: false,
-        }
+        Progress::default()
     }
 
     // One word more, unless it is out of place or one too many.
@@ -90,19 +85,17 @@ impl Progress {
         ensures { result ≡ judged self word place }
     {
         let word = BookWord::read(word, place)?;
-        match self.admit(word) {
-            Ok(next) => Ok(next),
-            Err(refusal) => Err(Fault::new(refusal, place)),
-        }
+        self.admit(word)
+            .map_err(|refusal| Fault::new(refusal, place))
     }
 
     // One word more that goes on with a record; none where the word begins another record or is refused.
     pub fn go_on(self, word: u32) -> Option<Progress>
         ensures { result ≡ goes_on self word }
     {
-        match BookWord::of(word) {
-            Some(BookWord::Lane { .. }) => self.admit_lane().ok(),
-            Some(BookWord::Next { .. }) => self.admit_lot().ok(),
+        match BookWord::try_from(word) {
+            Ok(BookWord::Lane { .. }) => self.admit_lane().ok(),
+            Ok(BookWord::Next { .. }) => self.admit_lot().ok(),
             _ => None,
         }
     }

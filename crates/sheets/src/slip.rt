@@ -2,7 +2,7 @@ ghost use Rattle.std.specs.Prelude.{◌≡◌};
 ghost use Rattle.sheets.specs.Slips.{taken_apart, says};
 
 use crate::fault::{Fault, Refusal};
-use crate::word::SlipWord;
+use crate::word::{SlipWord, Word};
 
 // A slip taken apart: its lot, and the words behind the LOT word.
 pub fn take_apart(slip: &[u32]) -> Result<(u16, &[u32]), Fault>

@@ -1,5 +1,6 @@
-ghost use Rattle.std.specs.Prelude.{◌≡◌, ◌==◌};
-ghost use Rattle.sheets.specs.Words.{kind, low, high, lone, paired, book_word, read_book_word, slip_word, read_slip_word};
+ghost use Rattle.std.specs.Prelude.{◌≡◌, ℕ, ◌-◌, ◌*◌, ◌/◌, ◌%◌, ◌^◌, ◌≤◌, ◌==◌, Option, Result};
+ghost use Rattle.sheets.specs.declared.fault.Refusal.{Refusal};
+ghost use Rattle.sheets.specs.Words.{kind, low, converted, read_word, book_word, slip_word};
 
 use crate::fault::{Fault, Refusal};
 
@@ -19,36 +20,26 @@ pub enum SlipWord {
     Wish { lane: u16 },
 }
 
+// The words of one kind of input, of a book sheet or of a slip. Any other word is strange there.
+pub trait Word: TryFrom<u32, Error = Refusal> {
+    // What a word says; nothing where it is strange.
+    ghost meaning: { ℕ → Option Self };
+
+    // The word at a place of the input.
+    final fn read(word: u32, place: usize) -> Result<Self, Fault>
+        ensures { result ≡ read_word meaning word place }
+    {
+        Self::try_from(word).map_err(|refusal| Fault::new(refusal, place))
+    }
+
+    // The conversion goes by this meaning.
+    ghost converts: { (word : ℕ) (read : Result Self Refusal) → Self.try_from_gives word read → read ≡ converted meaning word };
+}
+
 fn kind_of(word: u32) -> u32
     ensures { result ≡ kind word }
 {
     word >> 28
-}
-
-fn low_field(word: u32) -> u16
-    ensures { result ≡ low word }
-{
-    (word & 0xfff) as u16
-}
-
-fn high_field(word: u32) -> u16
-    ensures { result ≡ high word }
-{
-    ((word >> 12) & 0xfff) as u16
-}
-
-// Is nothing set between the kind and a single field?
-fn has_one_field(word: u32) -> bool
-    ensures { result ≡ lone word }
-{
-    (word >> 12) & 0xffff == 0
-}
-
-// Is nothing set between the kind and two fields?
-fn has_two_fields(word: u32) -> bool
-    ensures { result ≡ paired word }
-{
-    (word >> 24) & 0xf == 0
 }
 
 // Is the word a LOT word by its kind?
@@ -58,57 +49,62 @@ pub(crate) fn begins_slip(word: u32) -> bool
     kind_of(word) == 5
 }
 
-impl BookWord {
-    // The word of a book sheet; none where it is strange there.
-    pub(crate) fn of(word: u32) -> Option<BookWord>
-        ensures { result ≡ book_word word }
-    {
-        match kind_of(word) {
-            1 if has_one_field(word) => Some(BookWord::Shed {
-                cap: low_field(word),
-            }),
-            2 if has_two_fields(word) => Some(BookWord::Lane {
-                target: high_field(word),
-                capacity: low_field(word),
-            }),
-            3 if has_one_field(word) => Some(BookWord::Rank {
-                lane: low_field(word),
-            }),
-            4 if has_one_field(word) => Some(BookWord::Next {
-                lot: low_field(word),
-            }),
-            _ => None,
-        }
-    }
+// The field in the lowest bits.
+fn field(bits: u32) -> u16
+    ensures { result ≡ low bits }
+{
+    (bits & 0xfff) as u16
+}
 
-    // The word at a place of a book sheet.
-    pub fn read(word: u32, place: usize) -> Result<BookWord, Fault>
-        ensures { result ≡ read_book_word word place }
-    {
-        BookWord::of(word).ok_or(Fault::new(Refusal::Strange, place))
+// Is nothing set between the kind and so many fields?
+fn has_fields(word: u32, count: u32) -> bool
+    requires { count ≤ 2 }
+    ensures { result ≡ (word / 2 ^ (12 * count) % 2 ^ (28 - 12 * count) == 0) }
+{
+    (word >> (12 * count)) % (1 << (28 - 12 * count)) == 0
+}
+
+impl TryFrom<u32> for BookWord {
+    type Error = Refusal;
+
+    ghost try_from_gives = { λ word read. read ≡ converted book_word word };
+
+    fn try_from(word: u32) -> Result<BookWord, Refusal> {
+        match kind_of(word) {
+            1 if has_fields(word, 1) => Ok(BookWord::Shed { cap: field(word) }),
+            2 if has_fields(word, 2) => Ok(BookWord::Lane {
+                target: field(word >> 12),
+                capacity: field(word),
+            }),
+            3 if has_fields(word, 1) => Ok(BookWord::Rank { lane: field(word) }),
+            4 if has_fields(word, 1) => Ok(BookWord::Next { lot: field(word) }),
+            _ => Err(Refusal::Strange),
+        }
     }
 }
 
-impl SlipWord {
-    // The word of a slip; none where it is strange there.
-    fn of(word: u32) -> Option<SlipWord>
-        ensures { result ≡ slip_word word }
-    {
+impl Word for BookWord {
+    ghost meaning = { book_word };
+
+    ghost converts = { λ word read gives. gives };
+}
+
+impl TryFrom<u32> for SlipWord {
+    type Error = Refusal;
+
+    ghost try_from_gives = { λ word read. read ≡ converted slip_word word };
+
+    fn try_from(word: u32) -> Result<SlipWord, Refusal> {
         match kind_of(word) {
-            5 if has_one_field(word) => Some(SlipWord::Lot {
-                lot: low_field(word),
-            }),
-            6 if has_one_field(word) => Some(SlipWord::Wish {
-                lane: low_field(word),
-            }),
-            _ => None,
+            5 if has_fields(word, 1) => Ok(SlipWord::Lot { lot: field(word) }),
+            6 if has_fields(word, 1) => Ok(SlipWord::Wish { lane: field(word) }),
+            _ => Err(Refusal::Strange),
         }
     }
+}
 
-    // The word at a place of a slip.
-    pub fn read(word: u32, place: usize) -> Result<SlipWord, Fault>
-        ensures { result ≡ read_slip_word word place }
-    {
-        SlipWord::of(word).ok_or(Fault::new(Refusal::Strange, place))
-    }
+impl Word for SlipWord {
+    ghost meaning = { slip_word };
+
+    ghost converts = { λ word read gives. gives };
 }
