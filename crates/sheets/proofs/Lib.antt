@@ -1,4 +1,2 @@
 pub mod Admits
-pub mod Parts
 pub mod Passes
-pub mod Runs

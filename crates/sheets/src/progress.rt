@@ -1,5 +1,5 @@
-ghost use Rattle.std.specs.Prelude.{◌≡◌};
-ghost use Rattle.sheets.specs.Progress.{start, admits, admits_shed, admits_lane, admits_lot, judged, goes_on};
+ghost use Rattle.std.specs.Prelude.{◌≡◌, ◌≤◌, length};
+ghost use Rattle.sheets.specs.Progress.{start, admits, admits_shed, admits_lane, admits_lot, judged, goes_on, run_length, run_progress};
 
 use crate::fault::{Fault, Refusal};
 use crate::word::{BookWord, Word};
@@ -98,5 +98,20 @@ impl Progress {
             Ok(BookWord::Next { .. }) => self.admit_lot().ok(),
             _ => None,
         }
+    }
+
+    // How many of the words go on with a record, and how far the sheet has come behind them.
+    pub(crate) fn run(mut self, words: &[u32]) -> (usize, Progress)
+        ensures length { result.0 ≡ run_length self words.now }
+        ensures within { result.0 ≤ length words.now }
+        ensures progress { result.1 ≡ run_progress self words.now }
+    {
+        for (length, word) in words.iter().enumerate() {
+            let Some(next) = self.go_on(*word) else {
+                return (length, self);
+            };
+            self = next;
+        }
+        (words.len(), self)
     }
 }

@@ -1,14 +1,14 @@
-ghost use Rattle.std.specs.Prelude.{◌≡◌, ℕ, ◌+◌, ◌≤◌, length, drop, if◌then◌else◌, Ok};
+ghost use Rattle.std.specs.Prelude.{◌≡◌, ℕ, ◌+◌, ◌≤◌, length, take, drop, Ok};
 ghost use Rattle.std.specs.Option.{option_map};
-ghost use Rattle.sheets.specs.Progress.{start, run_length, run_progress};
-ghost use Rattle.sheets.specs.Records.{next_record, record_progress, next_slip, page, pages, size};
+ghost use Rattle.sheets.specs.Progress.{start};
+ghost use Rattle.sheets.specs.Records.{next_record, record_progress, next_slip, slip_length, page, pages, size};
 
 use crate::fault::Fault;
 use crate::progress::Progress;
 use crate::word::begins_slip;
 
 // A record as a part of the caller's words, with the place of its first word.
-#[derive(Clone, Copy)]
+#[derive(Clone, Copy, PartialEq, Eq, Debug)]
 pub struct Part<'a> {
     pub words: &'a [u32],
     pub place: usize,
@@ -21,6 +21,14 @@ pub struct Reader<'a> {
     at: usize,
     progress: Progress,
     ghost within: { at ≤ length words.now },
+}
+
+// How many of the words come before the next of kind 5, which begins another slip.
+fn words_before_slip(words: &[u32]) -> usize
+    ensures count { result ≡ slip_length words.now }
+    ensures within { result ≤ length words.now }
+{
+    words.iter().take_while(|word| !begins_slip(**word)).count()
 }
 
 impl<'a> Reader<'a> {
@@ -36,6 +44,22 @@ impl<'a> Reader<'a> {
         }
     }
 
+    // Hands out so many of the words that are left.
+    fn hand_out(&mut self, count: usize) -> Part<'a>
+        requires { self.old.at + count ≤ length self.old.words.now }
+        ensures words { self.new.words.now ≡ self.old.words.now }
+        ensures part { page result ≡ record { words = take count (drop self.old.at self.old.words.now); place = self.old.at } }
+        ensures at { self.new.at ≡ self.old.at + count }
+        ensures progress { self.new.progress ≡ self.old.progress }
+    {
+        let place = self.at;
+        self.at += count;
+        Part {
+            words: &self.words[place..self.at],
+            place,
+        }
+    }
+
     // The next record of a book sheet: a SHED or RANK word with the words that go on with it. A refused word ends the
     // record before it and is told by the next call, so that a book can judge what stands before it first.
     pub fn next_record(&mut self) -> Result<Option<Part<'a>>, Fault>
@@ -44,37 +68,13 @@ impl<'a> Reader<'a> {
         ensures at { self.new.at ≡ self.old.at + size result }
         ensures progress { self.new.progress ≡ record_progress self.old.progress self.old.at (drop self.old.at self.old.words.now) }
     {
-        let start = self.at;
-        if start >= self.words.len() {
+        let [first, rest @ ..] = &self.words[self.at..] else {
             return Ok(None);
-        }
-        self.progress = self.progress.judge(self.words[start], start)?;
-        self.at = start + 1;
-        while self.goes_on() {}
-        Ok(Some(Part {
-            words: &self.words[start..self.at],
-            place: start,
-        }))
-    }
-
-    // Takes the next word if it goes on with the record and is not refused.
-    fn goes_on(&mut self) -> bool
-        ensures words { self.new.words.now ≡ self.old.words.now }
-        ensures at { self.new.at ≡ self.old.at + (if result then 1 else 0) }
-        ensures run { run_length self.old.progress (drop self.old.at self.old.words.now) ≡ (if result then 1 + run_length self.new.progress (drop self.new.at self.old.words.now) else 0) }
-        ensures progress { run_progress self.old.progress (drop self.old.at self.old.words.now) ≡ (if result then run_progress self.new.progress (drop self.new.at self.old.words.now) else self.new.progress) }
-    {
-        if self.at >= self.words.len() {
-            return false;
-        }
-        match self.progress.go_on(self.words[self.at]) {
-            Some(progress) => {
-                self.progress = progress;
-                self.at += 1;
-                true
-            }
-            None => false,
-        }
+        };
+        let begun = self.progress.judge(*first, self.at)?;
+        let (behind, progress) = begun.run(rest);
+        self.progress = progress;
+        Ok(Some(self.hand_out(1 + behind)))
     }
 
     // The next slip of a run of words: up to the next word of kind 5, whatever its other bits are.
@@ -84,18 +84,9 @@ impl<'a> Reader<'a> {
         ensures at { self.new.at ≡ self.old.at + size (Ok result) }
         ensures progress { self.new.progress ≡ self.old.progress }
     {
-        let start = self.at;
-        if start >= self.words.len() {
+        let [_, rest @ ..] = &self.words[self.at..] else {
             return None;
-        }
-        let mut end = start + 1;
-        while end < self.words.len() && !begins_slip(self.words[end]) {
-            end += 1;
-        }
-        self.at = end;
-        Some(Part {
-            words: &self.words[start..end],
-            place: start,
-        })
+        };
+        Some(self.hand_out(1 + words_before_slip(rest)))
     }
 }
