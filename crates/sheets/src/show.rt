@@ -2,6 +2,7 @@ ghost use Rattle.std.specs.Prelude.{Some};
 ghost use Rattle.sheets.specs.Shown.{layer_name, refusal_line};
 
 use crate::fault::{Fault, Layer};
+use std::error::Error;
 use std::fmt;
 
 // A layer as a refusal line names it.
@@ -9,14 +10,14 @@ impl fmt::Display for Layer {
     ghost output = { λ l. Some (layer_name l) };
 
     fn fmt<W: fmt::Write>(&self, f: &mut fmt::Formatter<W>) -> fmt::Result {
-        match self {
-            Layer::Input => write!(f, "input"),
-            Layer::Word => write!(f, "word"),
-            Layer::Record => write!(f, "record"),
-            Layer::Book => write!(f, "book"),
-            Layer::Round => write!(f, "round"),
-            Layer::Plan => write!(f, "plan"),
-        }
+        f.write_str(match self {
+            Layer::Input => "input",
+            Layer::Word => "word",
+            Layer::Record => "record",
+            Layer::Book => "book",
+            Layer::Round => "round",
+            Layer::Plan => "plan",
+        })
     }
 }
 
@@ -31,3 +32,5 @@ impl fmt::Display for Fault {
         write!(f, "refused {number} at {place} in {layer}")
     }
 }
+
+impl Error for Fault {}
