@@ -2,7 +2,7 @@ use crate::parts::is_part;
 use sheets::fault::{Fault, Refusal};
 use sheets::reader::Reader;
 use sheets::slip::take_apart;
-use sheets::word::SlipWord;
+use sheets::word::{SlipWord, Word};
 use std::process::Abort;
 use std::test::Fail;
 

@@ -1,6 +1,6 @@
 use crate::opening::refused;
 use sheets::fault::{Layer, Refusal};
-use sheets::word::BookWord;
+use sheets::word::{BookWord, Word};
 use std::process::Abort;
 use std::test::Fail;
 

@@ -6,7 +6,7 @@ ghost use Rattle.boards.specs.Reading.{listed, Pushed};
 use crate::wishes::Wishes;
 use books::book::Book;
 use sheets::fault::{Fault, Refusal};
-use sheets::word::SlipWord;
+use sheets::word::{SlipWord, Word};
 
 impl Wishes {
     // One word behind the LOT word, in a book of so many lanes.

@@ -7,7 +7,7 @@ ghost use Rattle.books.specs.Faulty.{FirstFault};
 use crate::book::Book;
 use sheets::fault::{Fault, Refusal};
 use sheets::reader::{Part, Reader};
-use sheets::word::BookWord;
+use sheets::word::{BookWord, Word};
 
 // A sheet that is being read: the book so far, and the lane whose ranking is being read.
 #[derive(Drop)]
