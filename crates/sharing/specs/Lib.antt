@@ -1,4 +1,5 @@
 pub mod Cards
+pub mod Line
 pub mod LineUp
 pub mod Longest
 pub mod Orders

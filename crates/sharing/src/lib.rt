@@ -2,6 +2,7 @@
 #![tactic(auto)]
 
 pub mod card;
+mod line;
 pub mod line_up;
 pub mod longest;
 pub mod make;

@@ -1,26 +1,26 @@
-ghost use Rattle.std.specs.Prelude.{◌≡◌, ◌^◌, ◌<◌, ◌≤◌};
+ghost use Rattle.std.specs.Prelude.{◌≡◌, ◌^◌, ◌<◌};
 ghost use Rattle.sharing.specs.Cards.{terms};
 ghost use Rattle.sharing.specs.Shares.{shares, weight};
 ghost use Rattle.sharing.specs.ByShares.{shares_ordered};
 
 use crate::card::Card;
 use crate::line_up::LineUp;
-use crate::order::PlaceOrder;
+use crate::order::{Holding, Place, PlaceOrder};
 
 // The places stand by shares: the smaller part of the capacity beyond the target first, and of equals the earlier lane.
-#[derive(Clone, Copy)]
+#[derive(Clone, Copy, Debug, Default, PartialEq, Eq)]
 pub struct Shares;
 
 // A shed whose lanes keep in proportion to their capacities.
 pub type ShareRule = LineUp<Shares>;
 
-// What place k of lane g counts beside lane h.
-fn weigh(card: &Card, g: usize, k: u32, h: usize) -> u32
-    requires { k ≤ 65536 }
-    ensures value { result ≡ weight (terms card.now) g k h }
-    ensures small { result < 2 ^ 31 }
+// What a place counts beside another lane.
+fn weigh(card: &Card, place: Place, beside: usize) -> u64
+    ensures value { result ≡ weight (terms card.now) place.lane place.number beside }
+    ensures small { result < 2 ^ 45 }
 {
-    k * card.capacity_of(h) as u32 + card.target_of(h) as u32 * card.capacity_of(g) as u32
+    place.number as u64 * card.capacity_of(beside) as u64
+        + card.target_of(beside) as u64 * card.capacity_of(place.lane) as u64
 }
 
 impl PlaceOrder for Shares {
@@ -28,13 +28,14 @@ impl PlaceOrder for Shares {
 
     ghost ordered = { λ o. shares_ordered };
 
-    fn before(&self, card: &Card, g: usize, k: u16, h: usize, m: u16) -> bool {
-        let ours = weigh(card, g, k as u32, h);
-        let theirs = weigh(card, h, m as u32, g);
-        ours < theirs || ours == theirs && g < h
+    fn before(&self, card: &Card, first: Place, second: Place) -> bool {
+        let ours = weigh(card, first, second.lane);
+        let theirs = weigh(card, second, first.lane);
+        (ours, first.lane) < (theirs, second.lane)
     }
 
-    fn gains(&self, card: &Card, a: usize, w: u16, b: usize, v: u16) -> bool {
-        weigh(card, b, v as u32 + 1, a) + card.capacity_of(b) as u32 <= weigh(card, a, w as u32, b)
+    fn gains(&self, card: &Card, from: Holding, to: Holding) -> bool {
+        let after = weigh(card, to.next(), from.lane) + card.capacity_of(to.lane) as u64;
+        after <= weigh(card, from.last(), to.lane)
     }
 }

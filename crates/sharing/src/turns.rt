@@ -1,31 +1,41 @@
+ghost use Rattle.std.specs.Prelude.{◌≡◌, ◌+◌, ◌^◌, ◌<◌};
+ghost use Rattle.sharing.specs.Cards.{terms};
+ghost use Rattle.sharing.specs.Rules.{at};
 ghost use Rattle.sharing.specs.Turns.{turns};
 ghost use Rattle.sharing.specs.ByTurns.{turns_ordered};
 
 use crate::card::Card;
 use crate::line_up::LineUp;
-use crate::order::PlaceOrder;
+use crate::order::{Holding, Place, PlaceOrder};
 
 // The places stand by turns: the smaller number beyond the target first, and of equals the earlier lane.
-#[derive(Clone, Copy)]
+#[derive(Clone, Copy, Debug, Default, PartialEq, Eq)]
 pub struct Turns;
 
 // A shed whose lanes take turns.
 pub type TurnRule = LineUp<Turns>;
+
+// The number of a place beyond its target, with the targets of both lanes added, so that it is not below 0.
+fn count(card: &Card, place: Place, beside: usize) -> u64
+    ensures value { result ≡ place.number + at (terms card.now).targets beside }
+    ensures small { result < 2 ^ 33 }
+{
+    place.number as u64 + card.target_of(beside) as u64
+}
 
 impl PlaceOrder for Turns {
     ghost standing = { λ _. turns };
 
     ghost ordered = { λ o. turns_ordered };
 
-    fn before(&self, card: &Card, g: usize, k: u16, h: usize, m: u16) -> bool {
-        // k − t_g and m − t_h, with both targets added
-        let ours = k as u32 + card.target_of(h) as u32;
-        let theirs = m as u32 + card.target_of(g) as u32;
-        ours < theirs || ours == theirs && g < h
+    fn before(&self, card: &Card, first: Place, second: Place) -> bool {
+        let ours = count(card, first, second.lane);
+        let theirs = count(card, second, first.lane);
+        (ours, first.lane) < (theirs, second.lane)
     }
 
-    fn gains(&self, card: &Card, a: usize, w: u16, b: usize, v: u16) -> bool {
-        let after = v as u32 + 1 + (card.target_of(a) as u32 + 1);
-        after <= w as u32 + card.target_of(b) as u32
+    fn gains(&self, card: &Card, from: Holding, to: Holding) -> bool {
+        let after = count(card, to.next(), from.lane) + 1;
+        after <= count(card, from.last(), to.lane)
     }
 }

@@ -1,25 +1,13 @@
-use Rattle.std.proofs.Common.{arith}
+use Rattle.std.proofs.Common.{ℕ, ◌+◌, ◌*◌, ◌^◌, ◌<◌, ◌≤◌, arith}
 use Rattle.std.proofs.lemmas.Nat.{mul-le}
 use Rattle.sharing.proofs.shares.weigh.Goals as goal
 
-pub overflow_add-result : goal.overflow_add-result
-overflow_add-result c =
-    omega (
-      arith,
-      mul-le c.args.k c.capacity_of.result 65536 4095 c.requires c.capacity_of.ensures.small,
-      mul-le c.target_of.result c.capacity_of-2.result 4095 4095 c.target_of.ensures.small c.capacity_of-2.ensures.small,
-    )
+-- a place's number times one number of a card, and two numbers of a card, are small
+small_sum : (k q t r : ℕ) → k ≤ 2 ^ 32 → q ≤ 4095 → t ≤ 4095 → r ≤ 4095 → k * q + t * r < 2 ^ 45
+small_sum k q t r hk hq ht hr = omega (arith, mul-le k q (2 ^ 32) 4095 hk hq, mul-le t r 4095 4095 ht hr)
 
-pub returns : goal.returns
-returns c =
-    let h = c.capacity_of.ensures.value in
-    let t = c.target_of.ensures.value in
-    let g = c.capacity_of-2.ensures.value in
-    record {
-      value = (cc);
-      small = omega (
-        arith,
-        mul-le c.args.k c.capacity_of.result 65536 4095 c.requires c.capacity_of.ensures.small,
-        mul-le c.target_of.result c.capacity_of-2.result 4095 4095 c.target_of.ensures.small c.capacity_of-2.ensures.small,
-      );
-    }
+pub overflow_add-result : goal.overflow_add-result
+overflow_add-result c = grind (arith, small_sum)
+
+pub returns-clause-small : goal.returns-clause-small
+returns-clause-small c = grind (arith, small_sum)

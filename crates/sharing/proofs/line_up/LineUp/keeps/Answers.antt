@@ -13,7 +13,7 @@ returns g c =
     let s = g.O.PlaceOrder.standing c.args.self.now.order in
     let o = g.met.O.PlaceOrder.ordered c.args.self.now.order in
     let few = lanes_are_few c.args.card.now in
-    let is = c.dealt.ensures in
+    let is = c.front.ensures in
     let eight : length (deal s card x card.limit (replicate 8 0)) ≡ 8 = sym (ap length is) ∙ (search rules) in
     record {
       line_up = ap (on_card card) is ∙ same_on_card s card x (deal s card x card.limit (replicate 8 0)) (omega (arith, eight, few)) (dealt_line_up s o card x few);
