@@ -1,5 +1,5 @@
 -- The lane that is picked is that of the first of all next places, and has room.
-use Rattle.std.proofs.Common.{◌≡◌, ℕ, zero, suc, ◌+◌, ◌-◌, ◌<◌, ◌≤◌, Bool, true, false, ◌&&◌, ltb, nat_lt, List, [], ◌∷◌, ◌++◌, set, IfSome, Some, None, Option, fold, cond, sym, refl, ap, ◌∙◌, subst, arith, add-one, if◌then◌else◌}
+use Rattle.std.proofs.Common.{◌≡◌, ℕ, zero, suc, ◌+◌, ◌-◌, ◌<◌, ◌≤◌, true, false, ◌&&◌, nat_lt, List, [], ◌∷◌, ◌++◌, set, IfSome, Some, None, Option, fold, sym, refl, ap, ◌∙◌, subst, arith, add-one, if◌then◌else◌}
 use denote.Param.Members.{Mut, Called}
 use Rattle.std.proofs.iter.Yields.{gives_Drains}
 use Rattle.std.specs.Iterator.{Drains}
@@ -9,14 +9,14 @@ use Rattle.std.proofs.lemmas.Iterator.{YieldsList}
 use Rattle.std.proofs.lemmas.List.{map-id, append-nil}
 use Rattle.std.proofs.lemmas.List.FromFn.{map-range_with_len_more}
 use Rattle.std.specs.Option.{option_map, MatchOption}
-use Rattle.std.proofs.lemmas.Bool.{and_parts, ltb-true, cases_Bool}
 use Rattle.std.proofs.lemmas.List.Elements.{filter_map-append}
 use Rattle.std.proofs.lemmas.List.Sums.{fold-append}
 use Rattle.sharing.specs.declared.order.Place.{Place}
 use Rattle.sharing.specs.Cards.{Terms}
 use Rattle.sharing.specs.Line.{place_after, open_place, earlier}
-use Rattle.sharing.specs.LineUp.{better, picked, pick, deal}
-use Rattle.sharing.specs.Orders.{Standing}
+use Rattle.sharing.specs.Fronts.{picked_room}
+use Rattle.sharing.specs.LineUp.{better, pick, deal}
+use Rattle.sharing.specs.Orders.{Standing, Ordered}
 use Rattle.sharing.specs.Rules.{at, lanes, places}
 
 -- one item more
@@ -57,28 +57,13 @@ module _ (s : Standing) (c : Terms) (x k : List ℕ) where
         | false ↦ ap (reduce f) (append-nil rest) ∙ reduce_picks n
       ])
 
-  abbrev Roomy : ℕ → Option ℕ → Type 0
-  Roomy n t = IfSome t (λ b. (b < n) × (at k b < places c x b))
-
-  roomier : (n : ℕ) (t : Option ℕ) → Roomy n t → Roomy (suc n) t
-  roomier n None r = r
-  roomier n (Some b) r = (omega (arith, r.0), r.1)
-
-  pub picks_room : (n : ℕ) → IfSome (pick s c x k n) (λ b. (b < n) × (at k b < places c x b))
-  picks_room zero = tt
-  picks_room (suc n) =
-      (elim (ltb (at k n) (places c x n) && better s c k n (pick s c x k n)) as (λ v. (ltb (at k n) (places c x n) && better s c k n (pick s c x k n)) ≡ v → Roomy (suc n) (elim v [ true ↦ Some n | false ↦ pick s c x k n ])) [
-        | true ↦ λ e. (omega arith, ltb-true (at k n) (places c x n) (and_parts (ltb (at k n) (places c x n)) (better s c k n (pick s c x k n)) e).0)
-        | false ↦ λ e. roomier n (pick s c x k n) (picks_room n)
-      ]) refl
-
-  -- so the next place is in a lane of the card that can keep one more
-  pub next_room : lanes c ≤ 8 → ((l : ℕ) → at c.capacities l ≤ 4095) → (r : Option Place) → r ≡ option_map (place_after k) (pick s c x k (lanes c)) → IfSome r (λ p. (p.lane < 8) × (at k p.lane < 65535))
-  next_room few small r e = subst (λ (r : Option Place). IfSome r (λ p. (p.lane < 8) × (at k p.lane < 65535))) (sym e) (kept (pick s c x k (lanes c)) (picks_room (lanes c)))
+  -- the next place is in a lane of the card that can keep one more
+  pub next_room : Ordered s → lanes c ≤ 8 → ((l : ℕ) → at c.capacities l ≤ 4095) → (r : Option Place) → r ≡ option_map (place_after k) (pick s c x k (lanes c)) → IfSome r (λ p. (p.lane < 8) × (at k p.lane < 65535))
+  next_room o few small r e = subst (λ (r : Option Place). IfSome r (λ p. (p.lane < 8) × (at k p.lane < 65535))) (sym e) (room (pick s c x k (lanes c)) (picked_room s o c x k (lanes c)))
     where
-      kept : (t : Option ℕ) → Roomy (lanes c) t → IfSome (option_map (place_after k) t) (λ p. (p.lane < 8) × (at k p.lane < 65535))
-      kept None h = tt
-      kept (Some b) h = (omega (arith, few, h.0), omega (arith, h.1, small b))
+      room : (t : Option ℕ) → IfSome t (λ b. (b < lanes c) × (at k b < places c x b)) → IfSome (option_map (place_after k) t) (λ p. (p.lane < 8) × (at k p.lane < 65535))
+      room None h = tt
+      room (Some b) h = (omega (arith, few, h.0), omega (arith, h.1, small b))
 
   -- one place less to deal out
   pub deal_more : (most i : ℕ) (p : Place) → i < most → Some p ≡ option_map (place_after k) (pick s c x k (lanes c)) → deal s c x (most - i) k ≡ deal s c x (most - (i + 1)) (set k p.lane (at k p.lane + 1))

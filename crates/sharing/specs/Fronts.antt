@@ -1,5 +1,5 @@
 -- The front of a line-up is fixed by what it is, and dealing gives it.
-use Rattle.std.specs.Prelude.{◌≡◌, ℕ, zero, suc, ◌+◌, ◌-◌, ◌<◌, ◌≤◌, Bool, true, false, ◌&&◌, ltb, List, length, set, replicate, Some, None, Option, ◌≢◌, nat_lt, slice_set, refl}
+use Rattle.std.specs.Prelude.{◌≡◌, ℕ, zero, suc, ◌+◌, ◌-◌, ◌<◌, ◌≤◌, Bool, true, false, ◌&&◌, ltb, List, length, set, replicate, Some, None, IfSome, Option, ◌≢◌, nat_lt, slice_set, refl}
 use Rattle.std.proofs.Common.{sym, ◌∙◌}
 use Rattle.std.proofs.Math.Path.{ap, subst}
 use Rattle.std.proofs.Math.Logic.{inl, inr}
@@ -123,6 +123,11 @@ module _ (s : Standing) (o : Ordered s) (c : Terms) (x : List ℕ) where
     unfolding First
     picks zero = λ l h. absurd (omega arith)
     picks (suc n) = picked n (pick s c x k n) (picks n)
+
+  -- the lane that is picked has room
+  pub picked_room : (k : List ℕ) (n : ℕ) → IfSome (pick s c x k n) (λ b. (b < n) × (at k b < places c x b))
+  unfolding First
+  picked_room k n = (elim (pick s c x k n) as (λ t. First k n t → IfSome t (λ b. (b < n) × (at k b < places c x b))) [ None ↦ λ f. tt | Some b ↦ λ f. (f.0, f.1) ]) (picks k n)
 
   -- what has been dealt out so far: n places, and every kept place stands before every place that is not
   record Dealt (n : ℕ) (k : List ℕ) : Type 0 where

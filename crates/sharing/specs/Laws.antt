@@ -1,12 +1,13 @@
 -- The laws of a rule that lines its places up, once for every order.
-use Rattle.std.specs.Prelude.{◌≡◌, ℕ, ◌+◌, ◌<◌, ◌≤◌, min, false, not, ◌||◌, List, ◌==◌, nat_le}
+use Rattle.std.specs.Prelude.{◌≡◌, ℕ, ◌+◌, ◌<◌, ◌≤◌, min, true, false, ◌≢◌, List}
 use Rattle.std.proofs.Common.{◌∙◌, inl, inr, arith}
-use Rattle.std.proofs.lemmas.Bool.{cases_Bool, cases_lt, both_ways, and_parts, or_parts, not-true, eqb-false, leb-false}
+use Rattle.std.proofs.lemmas.Bool.{cases_Bool, cases_lt, both_ways}
+use Rattle.std.proofs.lemmas.Bool.Decides.{nat_tests}
 use Rattle.sharing.specs.declared.card.Card.{Card}
 use Rattle.sharing.specs.Cards.{Terms, terms}
 use Rattle.sharing.specs.LineUp.{line_up, rule_of, Front}
 use Rattle.sharing.specs.Orders.{Standing, Open, Ordered}
-use Rattle.sharing.specs.Rules.{at, lanes, places, kept, no_move, gains, Lawful, NoGainAtFillings}
+use Rattle.sharing.specs.Rules.{at, lanes, places, kept, gains, Lawful, NoGainAtFillings}
 use Rattle.sharing.specs.Fronts.{dealt_front, dealt_line_up}
 use Rattle.sharing.specs.Within.{lanes_are_few}
 use Rattle.sharing.specs.Sums.{sum_same, sum_other}
@@ -47,17 +48,9 @@ module _ (s : Standing) (o : Ordered s) where
       elim (cases_Bool (gains (rule_of s) c k a b)) [
         | inr no_gain ↦ no_gain
         | inl gain ↦
-            let parts = and_parts (not (no_move c k a b)) (s.gains c a (at k a) b (at k b)) gain in
-            let moves = not-true (no_move c k a b) parts.0 in
-            let p4 = or_parts (a == b || nat_le (lanes c) a || nat_le (lanes c) b || at k a == 0) (nat_le (at c.capacities b) (at k b)) moves in
-            let p3 = or_parts (a == b || nat_le (lanes c) a || nat_le (lanes c) b) (at k a == 0) p4.0 in
-            let p2 = or_parts (a == b || nat_le (lanes c) a) (nat_le (lanes c) b) p3.0 in
-            let p1 = or_parts (a == b) (nat_le (lanes c) a) p2.0 in
-            let apart = eqb-false a b p1.0 in
-            let on-card : a < lanes c = leb-false (lanes c) a p1.1 in
-            let some : 0 < at k a = let z = eqb-false (at k a) 0 p3.1 in omega (arith, z) in
-            let stands = f.first a b (at k a) (at k b + 1) on-card h (omega arith) (omega arith) (omega arith) (omega arith) in
-            absurd (both_ways (s.before c a (at k a) b (at k b + 1)) (o.gain_before c a (at k a) b (at k b) (omega (arith, f.inside a on-card)) (omega arith) apart some parts.1) stands)
+            let moves : (a ≢ b) × (a < lanes c) × (0 < at k a) × (s.gains c a (at k a) b (at k b) ≡ true) = (grind (arith, nat_tests), grind (arith, nat_tests), grind (arith, nat_tests), grind (arith, nat_tests)) in
+            let stands = f.first a b (at k a) (at k b + 1) moves.1 h (omega arith) (omega arith) (omega arith) (omega arith) in
+            absurd (both_ways (s.before c a (at k a) b (at k b + 1)) (o.gain_before c a (at k a) b (at k b) (omega (arith, f.inside a moves.1)) (omega arith) moves.0 moves.2 moves.3) stands)
       ]
 
   on_a_card : (c : Card) (x : List ℕ) → Front s (terms c) x (line_up s (terms c) x)

@@ -1,7 +1,7 @@
 -- Counts of places and sums over lanes.
-use Rattle.std.specs.Prelude.{◌≡◌, ℕ, zero, suc, ◌+◌, ◌<◌, ◌≤◌, Bool, true, ◌⊎◌, List, [], ◌∷◌, length, take, slice_set, refl}
+use Rattle.std.specs.Prelude.{◌≡◌, ℕ, zero, suc, ◌+◌, ◌<◌, ◌≤◌, Bool, true, ◌⊎◌, List, length, slice_set, refl}
 use Rattle.std.proofs.Common.{sym, ap, subst, ◌∙◌, inl, inr, arith}
-use Rattle.std.proofs.lemmas.List.{get_or-set_same, get_or-set_other}
+use Rattle.std.proofs.lemmas.List.{get_or-set_same, get_or-set_other, get_or-take}
 use Rattle.std.proofs.lemmas.Bool.{cases_Bool, cases_lt, cases_eq}
 use Rattle.std.proofs.lemmas.Bool.Decides.{nat_tests}
 use Rattle.sharing.specs.LineUp.{count_to}
@@ -86,10 +86,4 @@ sum_set k b (suc n) h inside =
 
 -- numbers on the card
 pub on_card_at : (t : Terms) (xs ys : List ℕ) → on_card t xs ≡ on_card t ys → (j : ℕ) → j < lanes t → at xs j ≡ at ys j
-on_card_at t xs ys e j h = sym (front (lanes t) xs j h) ∙ ap (λ (zs : List ℕ). at zs j) e ∙ front (lanes t) ys j h
-  where
-    front : (n : ℕ) (xs : List ℕ) (j : ℕ) → j < n → at (take n xs) j ≡ at xs j
-    front zero xs j h = absurd (omega arith)
-    front (suc n) [] j h = refl
-    front (suc n) (x ∷ xs) zero h = refl
-    front (suc n) (x ∷ xs) (suc j) h = front n xs j (omega arith)
+on_card_at t xs ys e j h = sym (get_or-take (lanes t) xs j 0 h) ∙ ap (λ (zs : List ℕ). at zs j) e ∙ get_or-take (lanes t) ys j 0 h

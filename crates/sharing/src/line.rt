@@ -9,7 +9,7 @@ use crate::card::Card;
 use crate::order::{Holding, Place, PlaceOrder};
 
 // The places that the lanes of a shed have for a supply, in line by an order.
-#[derive(Clone, Copy)]
+#[derive(Drop)]
 pub(crate) struct Line<'a, O> {
     pub(crate) order: &'a O,
     pub(crate) card: &'a Card,
@@ -30,7 +30,7 @@ impl<O: PlaceOrder> Line<'_, O> {
     fn open_place(&self, kept: &[u16; 8], lane: usize) -> Option<Place>
         ensures { result ≡ open_place (terms self.now.card.now) self.now.supply.now kept.now lane }
     {
-        let holding = Holding::at(kept, lane);
+        let holding = Holding::of(kept, lane);
         (holding.lots < self.places(lane)).then(|| holding.next())
     }
 

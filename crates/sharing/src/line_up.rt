@@ -49,8 +49,8 @@ impl<O: PlaceOrder> SharingRule for LineUp<O> {
     }
 
     fn gain(&self, card: &Card, filling: &[u16; 8], a: usize, b: usize) -> bool {
-        let from = Holding::at(filling, a);
-        let to = Holding::at(filling, b);
+        let from = Holding::of(filling, a);
+        let to = Holding::of(filling, b);
         let no_move = a == b
             || a >= card.lanes.len()
             || b >= card.lanes.len()

@@ -21,7 +21,7 @@ pub struct Holding {
 
 impl Holding {
     // What a lane holds at a filling, 0 off it.
-    pub fn at(filling: &[u16; 8], lane: usize) -> Holding
+    pub fn of(filling: &[u16; 8], lane: usize) -> Holding
         ensures { result ≡ record { lane = lane; lots = at filling.now lane } }
     {
         Holding {

@@ -15,8 +15,8 @@ pub struct Turns;
 // A shed whose lanes take turns.
 pub type TurnRule = LineUp<Turns>;
 
-// The number of a place beyond its target, with the targets of both lanes added, so that it is not below 0.
-fn count(card: &Card, place: Place, beside: usize) -> u64
+// How far a place is beyond its lane's target, beside another lane: with both targets added, so that it is not below 0.
+fn beyond_target(card: &Card, place: Place, beside: usize) -> u64
     ensures value { result ≡ place.number + at (terms card.now).targets beside }
     ensures small { result < 2 ^ 33 }
 {
@@ -29,13 +29,13 @@ impl PlaceOrder for Turns {
     ghost ordered = { λ o. turns_ordered };
 
     fn before(&self, card: &Card, first: Place, second: Place) -> bool {
-        let ours = count(card, first, second.lane);
-        let theirs = count(card, second, first.lane);
+        let ours = beyond_target(card, first, second.lane);
+        let theirs = beyond_target(card, second, first.lane);
         (ours, first.lane) < (theirs, second.lane)
     }
 
     fn gains(&self, card: &Card, from: Holding, to: Holding) -> bool {
-        let after = count(card, to.next(), from.lane) + 1;
-        after <= count(card, from.last(), to.lane)
+        let after = beyond_target(card, to.next(), from.lane) + 1;
+        after <= beyond_target(card, from.last(), to.lane)
     }
 }

@@ -26,4 +26,4 @@ returns g c =
     let place : c.reduce.result ≡ option_map (place_after k) (pick s t x k (lanes t)) =
     chain ∙ reduce_picks s t x k n ∙ ap (λ m. option_map (place_after k) (pick s t x k m)) (omega (arith, lanes_are card, c.len.ensures.value))
     in
-    record { place = place; room = next_room s t x k (lanes_are_few card) (capacity_is_small card) c.reduce.result place }
+    record { place = place; room = next_room s t x k (g.met.O.PlaceOrder.ordered line.order.now) (lanes_are_few card) (capacity_is_small card) c.reduce.result place }
