@@ -31,8 +31,8 @@ fn without_newline(line: &[u8]) -> &[u8] {
 fn show_answer(rt: &impl Print, question: &Question) -> anyhow::Result<()> {
     let answer = question.answer();
     let card = question.card;
-    println!(rt; "cap {}, lanes {}", card.cap, card.lanes)?;
-    for lane in 0..card.lanes {
+    println!(rt; "cap {}, lanes {}", card.cap, card.lanes.len())?;
+    for lane in 0..card.lanes.len() {
         if let Some(kept) = answer.kept(lane) {
             println!(rt; "  lane {lane}: {kept}")?;
         }

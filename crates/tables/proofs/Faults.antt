@@ -3,10 +3,9 @@ use Rattle.std.proofs.Common.{◌≡◌, ℕ, ◌+◌, Bool, true, false, not, �
 use Rattle.sharing.specs.Rules.{lanes}
 use Rattle.tables.specs.declared.complaint.Complaint.{Complaint}
 use Rattle.tables.specs.declared.complaint.Complaint.TheVariants.{WordBehindMove, WrongMove, NinthLane, WrongLane, CapacityTooLarge, TargetAboveCapacity, TargetsAboveCap}
-use Rattle.tables.specs.declared.cut.Mark.TheVariants.{Slash, Arrow}
 use Rattle.tables.specs.declared.question.LaneWord.{LaneWord}
 use Rattle.tables.specs.declared.question.Move.{Move}
-use Rattle.tables.specs.Cuts.{has, pieces}
+use Rattle.tables.specs.Cuts.{slash, arrow, has, pieces}
 use Rattle.tables.specs.Questions.{Asked, move_of, lane_of, more_lanes, with_word}
 use Rattle.tables.specs.Table.{table, first_of, complaint_of}
 
@@ -62,4 +61,4 @@ module _ (a : Asked) (large above over : LaneWord → Bool) where
 
 pub first_in_table : (a : Asked) (w : List ℕ) → complaint_of (with_word a w) ≡ first_of (table a w)
 first_in_table a w =
-    told_first a (λ l. ltb 4095 l.capacity) (λ l. ltb l.capacity l.target) (λ l. ltb a.terms.limit (sum a.terms.targets + l.target)) a.moved (has Arrow w) (move_of (pieces Arrow w)) (leb 8 (lanes a.terms)) (lane_of (pieces Slash w))
+    told_first a (λ l. ltb 4095 l.capacity) (λ l. ltb l.capacity l.target) (λ l. ltb a.terms.limit (sum a.terms.targets + l.target)) a.moved (has arrow w) (move_of (pieces arrow w)) (leb 8 (lanes a.terms)) (lane_of (pieces slash w))

@@ -1,3 +1,4 @@
+pub mod TryFolds
 pub mod Faults
 pub mod Figures
 pub mod Parts

@@ -1,48 +1,37 @@
 -- Bytes that are cut at marks.
-use Rattle.std.proofs.Common.{◌≡◌, ℕ, zero, suc, ◌<◌, true, false, ◌||◌, List, [], ◌∷◌, length, get_or, take, drop, refl, ap, ◌∙◌, arith}
-use Rattle.tables.specs.declared.cut.Mark.{Mark}
-use Rattle.tables.specs.Cuts.{marks, has, longer, pieces, filled, words}
-
--- none of the first n bytes is a mark
-abbrev pub Unmarked : Mark → List ℕ → ℕ → Type 0
-Unmarked m bs n = (k : ℕ) → k < n → marks m (get_or bs k 0) ≡ false
-
-pub pieces_mark : (m : Mark) (b : ℕ) (bs : List ℕ) → marks m b ≡ true → pieces m (b ∷ bs) ≡ [] ∷ pieces m bs
-pieces_mark m b bs e = ap (λ t. elim t [ true ↦ [] ∷ pieces m bs | false ↦ longer b (pieces m bs) ]) e
-
-pub pieces_other : (m : Mark) (b : ℕ) (bs : List ℕ) → marks m b ≡ false → pieces m (b ∷ bs) ≡ longer b (pieces m bs)
-pieces_other m b bs e = ap (λ t. elim t [ true ↦ [] ∷ pieces m bs | false ↦ longer b (pieces m bs) ]) e
+use Rattle.std.proofs.Common.{◌≡◌, ℕ, ◌+◌, ◌-◌, ◌≤◌, Bool, not, cond, ltb, List, [], ◌∷◌, length, take, drop, Some, None, sym, refl, ap, ◌∙◌, inl, inr, arith, length-drop}
+use Rattle.std.proofs.lemmas.Bool.{cases_Bool, ltb-true, ltb-false}
+use Rattle.std.proofs.lemmas.List.{take_all}
+use Rattle.std.proofs.lemmas.List.Splits.{slice_split-cons_no, slice_split_first}
+use Rattle.std.specs.List.{onto_first, position, position_or_len}
+use Rattle.tables.specs.Cuts.{pieces}
 
 -- the first mark is behind n bytes
-pub pieces_found : (m : Mark) (bs : List ℕ) (n : ℕ) → n < length bs → Unmarked m bs n → marks m (get_or bs n 0) ≡ true → pieces m bs ≡ take n bs ∷ pieces m (drop (suc n) bs)
-pieces_found m [] n h none is = absurd (omega arith)
-pieces_found m (b ∷ bs) zero h none is = pieces_mark m b bs is
-pieces_found m (b ∷ bs) (suc n) h none is =
-    pieces_other m b bs (none 0 (omega arith)) ∙ ap (longer b) (pieces_found m bs n (omega arith) (λ k l. none (suc k) (omega arith)) is)
-
-pub has_found : (m : Mark) (bs : List ℕ) (n : ℕ) → n < length bs → Unmarked m bs n → marks m (get_or bs n 0) ≡ true → has m bs ≡ true
-has_found m [] n h none is = absurd (omega arith)
-has_found m (b ∷ bs) zero h none is = ap (λ t. t || has m bs) is
-has_found m (b ∷ bs) (suc n) h none is = ap (λ t. t || has m bs) (none 0 (omega arith)) ∙ has_found m bs n (omega arith) (λ k l. none (suc k) (omega arith)) is
+pub pieces_found : (mark : ℕ → Bool) (bs : List ℕ) (n : ℕ) → Some n ≡ position mark bs → pieces mark bs ≡ take n bs ∷ pieces mark (take (length bs - (n + 1)) (drop (n + 1) bs))
+pieces_found mark bs n e =
+    elim (cases_Bool (ltb (position_or_len mark bs) (length bs))) [
+      | inl t ↦
+          let same : Some n ≡ Some (position_or_len mark bs) = e ∙ ap (λ b. cond b (Some (position_or_len mark bs)) None) t in
+          let at : n ≡ position_or_len mark bs = cc in
+          let rest : take (length bs - (n + 1)) (drop (n + 1) bs) ≡ drop (n + 1) bs = take_all (length bs - (n + 1)) (drop (n + 1) bs) (omega (arith, length-drop (n + 1) bs)) in
+          slice_split_first mark bs 0 (ltb-true _ _ t) ∙ (λ i. take (sym at i) bs ∷ pieces mark (drop (sym at i + 1) bs)) ∙ ap (λ p. take n bs ∷ pieces mark p) (sym rest)
+      | inr f ↦ let none : Some n ≡ None = e ∙ ap (λ b. cond b (Some (position_or_len mark bs)) None) f in cc
+    ]
 
 -- there is no mark
-pub pieces_none : (m : Mark) (bs : List ℕ) → Unmarked m bs (length bs) → pieces m bs ≡ bs ∷ []
-pieces_none m [] none = refl
-pieces_none m (b ∷ bs) none = pieces_other m b bs (none 0 (omega arith)) ∙ ap (longer b) (pieces_none m bs (λ k l. none (suc k) (omega arith)))
+unmarked : (mark : ℕ → Bool) (bs : List ℕ) → length bs ≤ position_or_len mark bs → pieces mark bs ≡ bs ∷ []
+unmarked mark [] h = refl
+unmarked mark (b ∷ bs) h =
+    elim (cases_Bool (mark b)) [
+      | inl t ↦ let first : position_or_len mark (b ∷ bs) ≡ 0 = ap (λ m. cond (not m) (1 + position_or_len mark bs) 0) t in absurd (omega arith)
+      | inr f ↦
+          let later : position_or_len mark (b ∷ bs) ≡ 1 + position_or_len mark bs = ap (λ m. cond (not m) (1 + position_or_len mark bs) 0) f in
+          slice_split-cons_no mark b bs f ∙ ap (onto_first b) (unmarked mark bs (omega arith))
+    ]
 
-pub has_none : (m : Mark) (bs : List ℕ) → Unmarked m bs (length bs) → has m bs ≡ false
-has_none m [] none = refl
-has_none m (b ∷ bs) none = ap (λ t. t || has m bs) (none 0 (omega arith)) ∙ has_none m bs (λ k l. none (suc k) (omega arith))
-
--- the words of a line, by its first piece p and what the pieces behind it make
-pub words_skip : (ws : List (List ℕ)) (p : List ℕ) (ps : List (List ℕ)) → ws ≡ filled (p ∷ ps) → length p ≡ 0 → ws ≡ filled ps
-words_skip ws [] ps e h = e
-words_skip ws (b ∷ bs) ps e h = absurd (omega arith)
-
-pub words_first : (ws : List (List ℕ)) (p : List ℕ) (ps : List (List ℕ)) → ws ≡ filled (p ∷ ps) → 0 < length p → ws ≡ p ∷ filled ps
-words_first ws [] ps e h = absurd (omega arith)
-words_first ws (b ∷ bs) ps e h = e
-
-pub no_words : (line : List ℕ) → length line ≡ 0 → words line ≡ []
-no_words [] h = refl
-no_words (b ∷ bs) h = absurd (omega arith)
+pub pieces_none : (mark : ℕ → Bool) (bs : List ℕ) → None ≡ position mark bs → pieces mark bs ≡ bs ∷ []
+pieces_none mark bs e =
+    elim (cases_Bool (ltb (position_or_len mark bs) (length bs))) [
+      | inl t ↦ let some : None ≡ Some (position_or_len mark bs) = e ∙ ap (λ b. cond b (Some (position_or_len mark bs)) None) t in cc
+      | inr f ↦ unmarked mark bs (ltb-false _ _ f)
+    ]

@@ -4,11 +4,10 @@ use Rattle.sharing.specs.Cards.{Terms, terms, more_terms}
 use Rattle.sharing.specs.Rules.{lanes}
 use Rattle.tables.specs.declared.complaint.Complaint.{Complaint}
 use Rattle.tables.specs.declared.complaint.Complaint.TheVariants.{NoCap, WrongCap, WordBehindMove, WrongMove, NinthLane, WrongLane, CapacityTooLarge, TargetAboveCapacity, TargetsAboveCap}
-use Rattle.tables.specs.declared.cut.Mark.TheVariants.{Slash, Arrow}
 use Rattle.tables.specs.declared.question.LaneWord.{LaneWord}
 use Rattle.tables.specs.declared.question.Move.{Move}
 use Rattle.tables.specs.declared.question.Question.{Question}
-use Rattle.tables.specs.Cuts.{has, pieces, words}
+use Rattle.tables.specs.Cuts.{slash, arrow, has, pieces, words}
 use Rattle.tables.specs.Numbers.{number}
 
 -- what is asked: the terms on the card, a number for each lane, and a move or none
@@ -38,7 +37,7 @@ move_of (a ∷ b ∷ []) = elim (number a) [ None ↦ None | Some from ↦ elim 
 move_of (a ∷ b ∷ p ∷ ps) = None
 
 abbrev pub with_move : Asked → List ℕ → Result Asked Complaint
-with_move a w = elim (move_of (pieces Arrow w)) [ None ↦ Err WrongMove | Some m ↦ Ok (record { terms = a.terms; numbers = a.numbers; moved = Some m }) ]
+with_move a w = elim (move_of (pieces arrow w)) [ None ↦ Err WrongMove | Some m ↦ Ok (record { terms = a.terms; numbers = a.numbers; moved = Some m }) ]
 
 -- a lane is three numbers with two `/` between them
 abbrev pub lane_of : List (List ℕ) → Option LaneWord
@@ -71,12 +70,12 @@ abbrev pub with_lane : Asked → List ℕ → Result Asked Complaint
 with_lane a w =
     elim (nat_le 8 (lanes a.terms)) [
       | true ↦ Err NinthLane
-      | false ↦ elim (lane_of (pieces Slash w)) [ None ↦ Err (WrongLane (lanes a.terms)) | Some l ↦ fitted a l ]
+      | false ↦ elim (lane_of (pieces slash w)) [ None ↦ Err (WrongLane (lanes a.terms)) | Some l ↦ fitted a l ]
     ]
 
 -- one word more behind the cap: none may stand behind a move; one that has a `>` in it is a move, any other is a lane
 abbrev pub with_word : Asked → List ℕ → Result Asked Complaint
-with_word a w = elim a.moved [ Some m ↦ Err WordBehindMove | None ↦ elim (has Arrow w) [ true ↦ with_move a w | false ↦ with_lane a w ] ]
+with_word a w = elim a.moved [ Some m ↦ Err WordBehindMove | None ↦ elim (has arrow w) [ true ↦ with_move a w | false ↦ with_lane a w ] ]
 
 -- the first word with a fault is told
 abbrev pub with_words : Result Asked Complaint → List (List ℕ) → Result Asked Complaint

@@ -3,23 +3,22 @@ use Rattle.std.specs.Prelude.{◌≡◌, ℕ, ◌+◌, Bool, true, false, not, �
 use Rattle.sharing.specs.Rules.{lanes}
 use Rattle.tables.specs.declared.complaint.Complaint.{Complaint}
 use Rattle.tables.specs.declared.complaint.Complaint.TheVariants.{WordBehindMove, WrongMove, NinthLane, WrongLane, CapacityTooLarge, TargetAboveCapacity, TargetsAboveCap}
-use Rattle.tables.specs.declared.cut.Mark.TheVariants.{Slash, Arrow}
 use Rattle.tables.specs.declared.question.LaneWord.{LaneWord}
 use Rattle.tables.specs.Complaints.{standing}
-use Rattle.tables.specs.Cuts.{has, pieces}
+use Rattle.tables.specs.Cuts.{slash, arrow, has, pieces}
 use Rattle.tables.specs.Questions.{Asked, move_of, lane_of, with_word}
 
 -- does the word name a lane whose numbers pass a test?
 abbrev pub lane_with : List ℕ → (LaneWord → Bool) → Bool
-lane_with w test = not (has Arrow w) && elim (lane_of (pieces Slash w)) [ None ↦ false | Some l ↦ test l ]
+lane_with w test = not (has arrow w) && elim (lane_of (pieces slash w)) [ None ↦ false | Some l ↦ test l ]
 
 -- each fault, and whether the word has it
 abbrev pub table : Asked → List ℕ → List (Complaint × Bool)
 table a w =
     (WordBehindMove, is_some a.moved) ∷
-    (WrongMove, has Arrow w && not (is_some (move_of (pieces Arrow w)))) ∷
-    (NinthLane, not (has Arrow w) && nat_le 8 (lanes a.terms)) ∷
-    (WrongLane (lanes a.terms), not (has Arrow w) && not (is_some (lane_of (pieces Slash w)))) ∷
+    (WrongMove, has arrow w && not (is_some (move_of (pieces arrow w)))) ∷
+    (NinthLane, not (has arrow w) && nat_le 8 (lanes a.terms)) ∷
+    (WrongLane (lanes a.terms), not (has arrow w) && not (is_some (lane_of (pieces slash w)))) ∷
     (CapacityTooLarge (lanes a.terms), lane_with w (λ l. nat_lt 4095 l.capacity)) ∷
     (TargetAboveCapacity (lanes a.terms), lane_with w (λ l. nat_lt l.capacity l.target)) ∷
     (TargetsAboveCap (lanes a.terms), lane_with w (λ l. nat_lt a.terms.limit (sum a.terms.targets + l.target))) ∷ []

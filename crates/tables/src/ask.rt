@@ -15,18 +15,13 @@ impl Question {
     pub fn answer(&self) -> Answer
         ensures { tells result ≡ answered (asks self.now) }
     {
-        let lanes = self.card.lanes;
         let turns = LineUp::of(Turns).keeps(&self.card, &self.numbers);
         let shares = LineUp::of(Shares).keeps(&self.card, &self.numbers);
-        let gain = match self.moved {
-            Some(moved) => Some(self.gain(moved)),
-            None => None,
-        };
         Answer {
-            lanes,
+            lanes: self.card.lanes.len(),
             turns,
             shares,
-            gain,
+            gain: self.moved.map(|moved| self.gain(moved)),
         }
     }
 

@@ -1,15 +1,20 @@
-ghost use Rattle.std.specs.Prelude.{◌≡◌};
-ghost use Rattle.tables.specs.Numbers.{digit_of, number};
+ghost use Rattle.std.specs.Prelude.{◌≡◌, [], ◌∷◌};
+ghost use Rattle.tables.specs.Numbers.{digit_of, go_on, number};
 
-const LARGEST: u32 = 65_535;
-
-fn digit_of(byte: u8) -> Option<u32>
+fn digit_of(byte: u8) -> Option<u16>
     ensures { result ≡ digit_of byte }
 {
     match byte {
-        b'0'..=b'9' => Some((byte - b'0') as u32),
+        b'0'..=b'9' => Some(u16::from(byte - b'0')),
         _ => None,
     }
+}
+
+// One digit more behind a number, if the number does not become too large.
+fn with_digit(value: u16, byte: u8) -> Option<u16>
+    ensures { result ≡ go_on value (byte ∷ []) }
+{
+    value.checked_mul(10)?.checked_add(digit_of(byte)?)
 }
 
 // One or more digits, of a number up to 65,535. It stops at the first digit that makes the number too large, so that
@@ -20,12 +25,6 @@ pub(crate) fn number_of(word: &[u8]) -> Option<u16>
     if word.is_empty() {
         return None;
     }
-    let mut value: u32 = 0;
-    for byte in word {
-        value = value * 10 + digit_of(*byte)?;
-        if value > LARGEST {
-            return None;
-        }
-    }
-    Some(value as u16)
+    word.iter()
+        .try_fold(0, |value, byte| with_digit(value, *byte))
 }

@@ -1,20 +1,20 @@
-ghost use Rattle.std.specs.Prelude.{◌≡◌, ◌<◌};
-ghost use Rattle.tables.specs.Cuts.{pieces};
+ghost use Rattle.std.specs.Prelude.{◌≡◌, ◌<◌, length};
+ghost use Rattle.tables.specs.Cuts.{slash, arrow, pieces};
 ghost use Rattle.tables.specs.Numbers.{number};
 ghost use Rattle.tables.specs.Questions.{asks, asked, capped, move_of, lane_of, fitted, with_move, with_lane, with_word, question};
 
 use crate::complaint::Complaint;
-use crate::cut::{Mark, Words, cut};
+use crate::cut::{cut, is_blank};
 use crate::number::number_of;
 use crate::question::{LaneWord, Move, Question};
 use sharing::card::Card;
 
 impl LaneWord {
     fn read(word: &[u8]) -> Option<LaneWord>
-        ensures { result ≡ lane_of (pieces Mark.Slash word.now) }
+        ensures { result ≡ lane_of (pieces slash word.now) }
     {
-        let (capacity, rest) = cut(word, Mark::Slash)?;
-        let (target, number) = cut(rest, Mark::Slash)?;
+        let (capacity, rest) = cut(word, b'/')?;
+        let (target, number) = cut(rest, b'/')?;
         Some(LaneWord {
             capacity: number_of(capacity)?,
             target: number_of(target)?,
@@ -25,12 +25,12 @@ impl LaneWord {
 
 impl Move {
     fn read(word: &[u8]) -> Option<Move>
-        ensures { result ≡ move_of (pieces Mark.Arrow word.now) }
+        ensures { result ≡ move_of (pieces arrow word.now) }
     {
-        let (from, to) = cut(word, Mark::Arrow)?;
+        let (from, to) = cut(word, b'>')?;
         Some(Move {
-            from: number_of(from)? as usize,
-            to: number_of(to)? as usize,
+            from: usize::from(number_of(from)?),
+            to: usize::from(number_of(to)?),
         })
     }
 }
@@ -40,15 +40,13 @@ impl Question {
     pub fn read(line: &[u8]) -> Result<Question, Complaint>
         ensures { asked result ≡ question line.now }
     {
-        let mut words = Words::of(line);
-        let Some(cap) = words.next_word() else {
-            return Err(Complaint::NoCap);
-        };
-        let mut question = Question::with_cap(cap)?;
-        while let Some(word) = words.next_word() {
-            question = question.with_word(word)?;
-        }
-        Ok(question)
+        let mut words = line
+            .split(|byte| is_blank(*byte))
+            .filter(|word| !word.is_empty());
+        let cap = words.next().ok_or(Complaint::NoCap)?;
+        words.try_fold(Question::with_cap(cap)?, |question, word| {
+            question.with_word(word)
+        })
     }
 
     // The question of the first word: a card without lanes.
@@ -71,7 +69,7 @@ impl Question {
         if self.moved.is_some() {
             return Err(Complaint::WordBehindMove);
         }
-        if cut(word, Mark::Arrow).is_some() {
+        if word.contains(&b'>') {
             self.with_move(word)
         } else {
             self.with_lane(word)
@@ -82,18 +80,16 @@ impl Question {
         ensures { asked result ≡ with_move (asks self) word.now }
     {
         let moved = Move::read(word).ok_or(Complaint::WrongMove)?;
-        let numbers = self.numbers;
         Ok(Question {
-            card: self.card,
-            numbers,
             moved: Some(moved),
+            ..self
         })
     }
 
     fn with_lane(self, word: &[u8]) -> Result<Question, Complaint>
         ensures { asked result ≡ with_lane (asks self) word.now }
     {
-        let at = self.card.lanes;
+        let at = self.card.lanes.len();
         if at >= 8 {
             return Err(Complaint::NinthLane);
         }
@@ -103,10 +99,10 @@ impl Question {
 
     // One lane more on the card, if its numbers fit.
     fn with_fit(self, lane: LaneWord) -> Result<Question, Complaint>
-        requires { self.card.lanes < 8 }
+        requires { length self.card.lanes.items < 8 }
         ensures { asked result ≡ fitted (asks self) lane }
     {
-        let at = self.card.lanes;
+        let at = self.card.lanes.len();
         if lane.capacity > 4095 {
             return Err(Complaint::CapacityTooLarge { lane: at });
         }
@@ -122,7 +118,7 @@ impl Question {
         Ok(Question {
             card,
             numbers,
-            moved: self.moved,
+            ..self
         })
     }
 }

@@ -5,7 +5,10 @@ ghost use Rattle.tables.specs.Shown.{kept_shown, move_shown, gain_shown, yes_or_
 use crate::answer::{Gain, Kept};
 use crate::complaint::Complaint;
 use crate::question::Move;
+use std::error::Error;
 use std::fmt;
+
+impl Error for Complaint {}
 
 // A complaint in words.
 impl fmt::Display for Complaint {

@@ -1,41 +1,19 @@
-use Rattle.std.proofs.Common.{◌+◌, ◌*◌, ◌<◌, length, get_or, drop, sym, ap, ◌∙◌, arith}
-use Rattle.std.proofs.lemmas.List.{at_drop_more, at_drop_all}
+use Rattle.std.proofs.Common.{◌≡◌, ℕ, ◌<◌, [], ◌∷◌, length, Some, None, Option, sym, ap, ◌∙◌, arith, rules}
 use Rattle.std.proofs.lemmas.Bool.Decides.{nat_tests}
+use Rattle.std.proofs.lemmas.Iterator.{YieldsList-from_slice}
+use Rattle.std.specs.ControlFlow.{continue_value}
 use Rattle.tables.specs.Numbers.{go_on}
-use Rattle.tables.proofs.Figures.{goes_on, no_digit, too_large, at_end, digit_known, digit_none, some_digits}
+use Rattle.tables.proofs.TryFolds.{try_fold_from_yields_List}
+use Rattle.tables.proofs.Figures.{with_digits, with_digits-go_on, some_digits}
 use Rattle.tables.proofs.number.number_of.Goals as goal
-
-pub loop-byte-preserved : goal.loop-byte-preserved
-loop-byte-preserved c =
-    let w = c.args.word.now in
-    let x = c.loop-byte in
-    let b = get_or w x.byte-index 0 in
-    let known = digit_known b c.in_ok-value.field-0 (sym c.digit_of.ensures ∙ c.in_ok-value.was) in
-    let here = at_drop_more (go_on x.value) w x.byte-index 0 c.loop-byte-test.true in
-    (omega (arith, c.if-value-gt-LARGEST.false), ap (λ d. go_on (x.value * 10 + d) (drop (x.byte-index + 1) w)) known.1 ∙ sym (goes_on x.value b (drop (x.byte-index + 1) w) known.0) ∙ sym here ∙ x.invariant.1)
-
-pub returns-in_err-value : goal.returns-in_err-value
-returns-in_err-value c =
-    let w = c.args.word.now in
-    let x = c.loop-byte in
-    let b = get_or w x.byte-index 0 in
-    let none = digit_none b (sym c.digit_of.ensures ∙ c.in_err-value.was) in
-    let here = at_drop_more (go_on x.value) w x.byte-index 0 c.loop-byte-test.true in
-    c.from_residual.ensures ∙ sym (no_digit x.value b (drop (x.byte-index + 1) w) none) ∙ sym here ∙ x.invariant.1 ∙ sym (some_digits w (omega (arith, c.loop-byte-test.true)))
-
-pub returns-then-value-gt-LARGEST : goal.returns-then-value-gt-LARGEST
-returns-then-value-gt-LARGEST c =
-    let w = c.args.word.now in
-    let x = c.loop-byte in
-    let b = get_or w x.byte-index 0 in
-    let known = digit_known b c.in_ok-value.field-0 (sym c.digit_of.ensures ∙ c.in_ok-value.was) in
-    let here = at_drop_more (go_on x.value) w x.byte-index 0 c.loop-byte-test.true in
-    let large = too_large (x.value * 10 + c.in_ok-value.field-0) (drop (x.byte-index + 1) w) (omega (arith, c.if-value-gt-LARGEST.true)) in
-    sym large ∙ ap (λ d. go_on (x.value * 10 + d) (drop (x.byte-index + 1) w)) known.1 ∙ sym (goes_on x.value b (drop (x.byte-index + 1) w) known.0) ∙ sym here ∙ x.invariant.1 ∙ sym (some_digits w (omega (arith, c.loop-byte-test.true)))
 
 pub returns : goal.returns
 returns c =
     let w = c.args.word.now in
-    let x = c.loop-byte in
     let some : 0 < length w = let e = c.if-is_empty.ensures in grind (arith, nat_tests) in
-    sym (at_end x.value x.invariant.0) ∙ sym (at_drop_all (go_on x.value) w x.byte-index c.loop-byte-test.false) ∙ x.invariant.1 ∙ sym (some_digits w some)
+    try_fold_from_yields_List {Z = Option ℕ} _ (λ x. x.now) _ (λ o k. o ≡ continue_value k) (λ e o. o ≡ None) (λ o. o) (λ v bs. with_digits (Some v) bs) _
+    (λ v r is. is)
+    (λ v n x o q bs call is. (search rules, let one : o ≡ go_on v (x.now ∷ []) = search rules in ap (λ p. with_digits p bs) {x = Some n} (sym is ∙ one)))
+    (λ v x o q e r bs call is out. let one : o ≡ go_on v (x.now ∷ []) = search rules in out ∙ ap (λ p. with_digits p bs) {x = None} (sym is ∙ one))
+    _ _ w 0 c.try_fold.result c.try_fold.ensures.ran (YieldsList-from_slice w cc)
+    ∙ with_digits-go_on 0 w (omega arith) ∙ sym (some_digits w some)
