@@ -1,5 +1,5 @@
 -- What an answer tells of the lanes on the card.
-use Rattle.std.proofs.Common.{◌≡◌, ℕ, ◌<◌, ◌≤◌, min, true, false, ltb, List, length, take, Some, None, Option, sym, ap, ◌∙◌, arith, length-take}
+use Rattle.std.proofs.Common.{◌≡◌, ℕ, ◌<◌, ◌≤◌, min, Bool, true, false, ltb, List, length, take, Some, None, Option, sym, ap, ◌∙◌, arith, length-take}
 use Rattle.std.proofs.lemmas.List.FromFn.{length-map-range_with_len}
 use Rattle.std.proofs.lemmas.List.{take_all, get_or-take}
 use Rattle.std.proofs.lemmas.Bool.{lt-ltb, le-ltb}
@@ -11,7 +11,7 @@ use Rattle.sharing.specs.Rules.{at, lanes, on_card}
 use Rattle.sharing.specs.Shares.{shares}
 use Rattle.sharing.specs.Turns.{turns}
 use Rattle.tables.specs.declared.answer.Answer.{Answer}
-use Rattle.tables.specs.declared.answer.Gain.{Gain}
+use Rattle.tables.specs.declared.answer.ByRule.{ByRule}
 use Rattle.tables.specs.Answers.{gained, answered}
 use Rattle.tables.specs.Questions.{Asked}
 use Rattle.tables.specs.Told.{tells, kept_at}
@@ -20,7 +20,7 @@ use Rattle.tables.specs.Told.{tells, kept_at}
 line_up_on_card : (s : Standing) (t : Terms) (x : List ℕ) → on_card t (line_up s t x) ≡ line_up s t x
 line_up_on_card s t x = take_all (lanes t) (line_up s t x) (omega (arith, length-map-range_with_len (front s t x) 0 (lanes t)))
 
-pub all_told : (a : Asked) (n : ℕ) (k m : List ℕ) (g : Option Gain) → lanes a.terms ≡ n → on_card a.terms k ≡ on_card a.terms (line_up turns a.terms a.numbers) → on_card a.terms m ≡ on_card a.terms (line_up shares a.terms a.numbers) → g ≡ option_map (gained a) a.moved →
+pub all_told : (a : Asked) (n : ℕ) (k m : List ℕ) (g : Option (ByRule Bool)) → lanes a.terms ≡ n → on_card a.terms k ≡ on_card a.terms (line_up turns a.terms a.numbers) → on_card a.terms m ≡ on_card a.terms (line_up shares a.terms a.numbers) → g ≡ option_map (gained a) a.moved →
     tells (record { lanes = n; turns = k; shares = m; gain = g }) ≡ answered a
 all_told a n k m g same by-turns by-shares gain =
     let first = ap (λ j. take j k) (sym same) ∙ by-turns ∙ line_up_on_card turns a.terms a.numbers in

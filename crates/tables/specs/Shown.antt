@@ -1,11 +1,10 @@
 -- What is printed of an answer.
 use Rattle.std.specs.Prelude.{ℕ, Bool, true, false, List, ◌++◌, codes, decimal}
-use Rattle.tables.specs.declared.answer.Gain.{Gain}
-use Rattle.tables.specs.declared.answer.Kept.{Kept}
+use Rattle.tables.specs.declared.answer.ByRule.{ByRule}
 use Rattle.tables.specs.declared.question.Move.{Move}
 
 -- as "turns keep 2, shares keep 3"
-abbrev pub kept_shown : Kept → List ℕ
+abbrev pub kept_shown : ByRule ℕ → List ℕ
 kept_shown k = codes "turns keep " ++ (decimal k.turns ++ (codes ", shares keep " ++ decimal k.shares))
 
 -- as "0>1"
@@ -17,5 +16,5 @@ yes_or_no true = codes "yes"
 yes_or_no false = codes "no"
 
 -- as "turns gain yes, shares gain no"
-abbrev pub gain_shown : Gain → List ℕ
+abbrev pub gain_shown : ByRule Bool → List ℕ
 gain_shown g = codes "turns gain " ++ (yes_or_no g.turns ++ (codes ", shares gain " ++ yes_or_no g.shares))

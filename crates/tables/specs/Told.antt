@@ -1,20 +1,19 @@
 -- What an answer tells.
-use Rattle.std.specs.Prelude.{ℕ, true, false, List, length, take, Some, None, Option, nat_lt}
+use Rattle.std.specs.Prelude.{ℕ, Bool, true, false, List, length, take, Some, None, Option, nat_lt}
 use Rattle.sharing.specs.Rules.{at}
 use Rattle.tables.specs.declared.answer.Answer.{Answer}
-use Rattle.tables.specs.declared.answer.Gain.{Gain}
-use Rattle.tables.specs.declared.answer.Kept.{Kept}
+use Rattle.tables.specs.declared.answer.ByRule.{ByRule}
 
 -- how many lots each lane of the card keeps by turns and by shares, and whether the shed gains by the move
 pub record Told : Type 0 where
   pub turns : List ℕ
   pub shares : List ℕ
-  pub gain : Option Gain
+  pub gain : Option (ByRule Bool)
 
 -- off the card the rows tell nothing
 abbrev pub tells : Answer → Told
 tells a = record { turns = take a.lanes a.turns; shares = take a.lanes a.shares; gain = a.gain }
 
 -- what one lane keeps; none if it is not on the card
-abbrev pub kept_at : Told → ℕ → Option Kept
+abbrev pub kept_at : Told → ℕ → Option (ByRule ℕ)
 kept_at t lane = elim (nat_lt lane (length t.turns)) [ true ↦ Some (record { turns = at t.turns lane; shares = at t.shares lane }) | false ↦ None ]

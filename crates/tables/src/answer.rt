@@ -1,6 +1,19 @@
 ghost use Rattle.std.specs.Prelude.{◌≡◌};
 ghost use Rattle.tables.specs.Told.{tells, kept_at};
 
+// What is asked of both rules, as each answers it.
+#[derive(Clone, Copy, PartialEq, Eq, Debug)]
+pub struct ByRule<T> {
+    pub turns: T,
+    pub shares: T,
+}
+
+// How many lots a lane keeps.
+pub type Kept = ByRule<u16>;
+
+// Does the shed gain by a move?
+pub type Gain = ByRule<bool>;
+
 // What both rules answer to a question: how many lots each lane of the card keeps, and whether the shed gains by the
 // move, if one is asked about.
 #[derive(Clone, Copy)]
@@ -9,20 +22,6 @@ pub struct Answer {
     pub(crate) turns: [u16; 8],
     pub(crate) shares: [u16; 8],
     pub(crate) gain: Option<Gain>,
-}
-
-// Does the shed gain by a move, under each rule?
-#[derive(Clone, Copy, PartialEq, Eq, Debug)]
-pub struct Gain {
-    pub turns: bool,
-    pub shares: bool,
-}
-
-// How many lots a lane keeps, under each rule.
-#[derive(Clone, Copy, PartialEq, Eq, Debug)]
-pub struct Kept {
-    pub turns: u16,
-    pub shares: u16,
 }
 
 impl Answer {
