@@ -7,14 +7,14 @@ use tables::question::Question;
 fn main(rt: HostRuntime) -> anyhow::Result<()> {
     let mut input = BufReader::new(rt.alloc(), rt.stdin())?;
     let mut line = Vec::new(rt.alloc());
-    for before in 0..u64::MAX {
+    for number in 1..=u64::MAX {
         line.clear();
         if input.read_until(b'\n', &mut line)? == 0 {
             break;
         }
         match Question::read(without_newline(&line)) {
             Ok(question) => show_answer(&rt, &question)?,
-            Err(complaint) => println!(rt; "line {}: {complaint}", before + 1)?,
+            Err(complaint) => println!(rt; "line {number}: {complaint}")?,
         }
     }
     Ok(())
@@ -22,10 +22,7 @@ fn main(rt: HostRuntime) -> anyhow::Result<()> {
 
 // A line without the newline that ends it; the last line may have none.
 fn without_newline(line: &[u8]) -> &[u8] {
-    match line {
-        [text @ .., b'\n'] => text,
-        _ => line,
-    }
+    line.strip_suffix(b"\n").unwrap_or(line)
 }
 
 fn show_answer(rt: &impl Print, question: &Question) -> anyhow::Result<()> {
