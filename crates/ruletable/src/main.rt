@@ -29,10 +29,8 @@ fn show_answer(rt: &impl Print, question: &Question) -> anyhow::Result<()> {
     let answer = question.answer();
     let card = question.card;
     println!(rt; "cap {}, lanes {}", card.cap, card.lanes.len())?;
-    for lane in 0..card.lanes.len() {
-        if let Some(kept) = answer.kept(lane) {
-            println!(rt; "  lane {lane}: {kept}")?;
-        }
+    for (lane, kept) in answer.kept_by_lane().iter().enumerate() {
+        println!(rt; "  lane {lane}: {kept}")?;
     }
     if let (Some(moved), Some(gain)) = (question.moved, answer.gain()) {
         println!(rt; "  move {moved}: {gain}")?;

@@ -1,5 +1,5 @@
 -- What an answer tells.
-use Rattle.std.specs.Prelude.{ℕ, Bool, true, false, List, length, take, Some, None, Option, nat_lt}
+use Rattle.std.specs.Prelude.{ℕ, Bool, true, false, List, length, map, Some, None, Option, nat_lt}
 use Rattle.sharing.specs.Rules.{at}
 use Rattle.tables.specs.declared.answer.Answer.{Answer}
 use Rattle.tables.specs.declared.answer.ByRule.{ByRule}
@@ -10,9 +10,9 @@ pub record Told : Type 0 where
   pub shares : List ℕ
   pub gain : Option (ByRule Bool)
 
--- off the card the rows tell nothing
+-- the row has what each lane of the card keeps
 abbrev pub tells : Answer → Told
-tells a = record { turns = take a.lanes a.turns; shares = take a.lanes a.shares; gain = a.gain }
+tells a = record { turns = map (λ k. k.turns) a.kept.items; shares = map (λ k. k.shares) a.kept.items; gain = a.gain }
 
 -- what one lane keeps; none if it is not on the card
 abbrev pub kept_at : Told → ℕ → Option (ByRule ℕ)

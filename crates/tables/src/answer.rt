@@ -1,5 +1,7 @@
-ghost use Rattle.std.specs.Prelude.{◌≡◌};
+ghost use Rattle.std.specs.Prelude.{◌≡◌, map};
 ghost use Rattle.tables.specs.Told.{tells, kept_at};
+
+use rows::row::Row;
 
 // What is asked of both rules, as each answers it.
 #[derive(Clone, Copy, PartialEq, Eq, Debug)]
@@ -18,9 +20,7 @@ pub type Gain = ByRule<bool>;
 // move, if one is asked about.
 #[derive(Clone, Copy)]
 pub struct Answer {
-    pub(crate) lanes: usize,
-    pub(crate) turns: [u16; 8],
-    pub(crate) shares: [u16; 8],
+    pub(crate) kept: Row<Kept, 8>,
     pub(crate) gain: Option<Gain>,
 }
 
@@ -29,13 +29,15 @@ impl Answer {
     pub fn kept(&self, lane: usize) -> Option<Kept>
         ensures { result ≡ kept_at (tells self.now) lane }
     {
-        if lane >= self.lanes.min(8) {
-            return None;
-        }
-        Some(Kept {
-            turns: self.turns[lane],
-            shares: self.shares[lane],
-        })
+        self.kept.get(lane).copied()
+    }
+
+    // What each lane of the card keeps, in the order of the card.
+    pub fn kept_by_lane(&self) -> &[Kept]
+        ensures turns { map (λ k. k.turns) result.now ≡ (tells self.now).turns }
+        ensures shares { map (λ k. k.shares) result.now ≡ (tells self.now).shares }
+    {
+        &self.kept
     }
 
     // Does the shed gain by the move? None if no move is asked about.

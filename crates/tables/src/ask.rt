@@ -1,10 +1,11 @@
-ghost use Rattle.std.specs.Prelude.{◌≡◌};
+ghost use Rattle.std.specs.Prelude.{◌≡◌, map};
 ghost use Rattle.tables.specs.Answers.{answered, gained};
 ghost use Rattle.tables.specs.Questions.{asks};
 ghost use Rattle.tables.specs.Told.{tells};
 
-use crate::answer::{Answer, Gain};
+use crate::answer::{Answer, Gain, Kept};
 use crate::question::{Move, Question};
+use rows::row::Row;
 use sharing::line_up::LineUp;
 use sharing::rule::SharingRule;
 use sharing::shares::Shares;
@@ -15,14 +16,31 @@ impl Question {
     pub fn answer(&self) -> Answer
         ensures { tells result ≡ answered (asks self.now) }
     {
-        let turns = LineUp::of(Turns).keeps(&self.card, &self.numbers);
-        let shares = LineUp::of(Shares).keeps(&self.card, &self.numbers);
         Answer {
-            lanes: self.card.lanes.len(),
-            turns,
-            shares,
+            kept: self.keeps(),
             gain: self.moved.map(|moved| self.gain(moved)),
         }
+    }
+
+    // How many lots each lane of the card keeps, the numbers being its supply.
+    fn keeps(&self) -> Row<Kept, 8>
+        ensures turns { map (λ k. k.turns) result.items ≡ (answered (asks self.now)).turns }
+        ensures shares { map (λ k. k.shares) result.items ≡ (answered (asks self.now)).shares }
+    {
+        let turns = LineUp::of(Turns).keeps(&self.card, &self.numbers);
+        let shares = LineUp::of(Shares).keeps(&self.card, &self.numbers);
+        let mut kept = Row::new(Kept {
+            turns: 0,
+            shares: 0,
+        });
+        for (turns, shares) in turns.iter().zip(&shares).take(self.card.lanes.len()) {
+            let keeps = Kept {
+                turns: *turns,
+                shares: *shares,
+            };
+            kept.push(keeps).unwrap();
+        }
+        kept
     }
 
     // Does the shed gain by the move, the numbers being its filling?

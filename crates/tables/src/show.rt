@@ -42,8 +42,7 @@ impl fmt::Display for Kept {
     ghost output = { λ k. Some (kept_shown k) };
 
     fn fmt<W: fmt::Write>(&self, f: &mut fmt::Formatter<W>) -> fmt::Result {
-        let turns = self.turns;
-        let shares = self.shares;
+        let Kept { turns, shares } = *self;
         write!(f, "turns keep {turns}, shares keep {shares}")
     }
 }
@@ -52,8 +51,7 @@ impl fmt::Display for Move {
     ghost output = { λ m. Some (move_shown m) };
 
     fn fmt<W: fmt::Write>(&self, f: &mut fmt::Formatter<W>) -> fmt::Result {
-        let from = self.from;
-        let to = self.to;
+        let Move { from, to } = *self;
         write!(f, "{from}>{to}")
     }
 }
