@@ -36,15 +36,23 @@ impl Book {
         }
     }
 
+    // The lots that a lane ranks, the best first; none if it is not in the book.
+    pub fn ranking(&self, lane: usize) -> &[u8]
+        ensures { result.now ≡ ranking_of (contents self.now) lane }
+    {
+        if lane < self.lane_count {
+            let lane = &self.lanes[lane];
+            &lane.lots[..lane.ranked as usize]
+        } else {
+            &[]
+        }
+    }
+
     // The lot at a place of a lane's ranking, the best at 0; none behind the last, and if the lane is not in the book.
     pub fn lot(&self, lane: usize, place: usize) -> Option<u8>
         ensures { result ≡ slice_get (ranking_of (contents self.now) lane) place }
     {
-        if lane < self.lane_count && place < self.lanes[lane].ranked as usize {
-            Some(self.lanes[lane].lots[place])
-        } else {
-            None
-        }
+        self.ranking(lane).get(place).copied()
     }
 
     // Does a lane rank a lot? A lane that is not in the book ranks none.
