@@ -33,10 +33,6 @@ lanes_length b = shown_length entry b.lanes b.lane_count (omega (arith, b.lane_p
 pub lane_of_known : (b : Book) (l : ℕ) → l < b.lane_count → lane_of (contents b) l ≡ entry (lane_at b.lanes l)
 lane_of_known b l h = shown_at entry b.lanes b.lane_count l no_lane no_entry h (omega (arith, b.lane_places, b.few_lanes))
 
--- a write to a lane's entry adds no lane
-pub same_lanes : (b d : Book) (l : ℕ) (e : Entry) → (contents d).lanes ≡ set (contents b).lanes l e → d.lane_count ≡ b.lane_count
-same_lanes b d l e is = sym (lanes_length d) ∙ ap length is ∙ length-set (contents b).lanes l e ∙ lanes_length b
-
 -- how many lots a lane of the book ranks
 pub ranked_length : (b : Book) (l : ℕ) → l < b.lane_count → length (lane_of (contents b) l).ranking ≡ (lane_at b.lanes l).ranked
 ranked_length b l h =

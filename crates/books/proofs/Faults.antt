@@ -45,11 +45,11 @@ nothing_read = record {
   limit = refl;
   targets = refl;
   ranking = refl;
-  known = λ l e. let z : ◌≡◌ {A = ℕ} 0 1 = cc in absurd (omega arith);
-  current = λ l e. let z : ◌≡◌ {A = ℕ} 0 1 = cc in absurd (omega arith);
+  known = λ l e. absurd cc;
+  current = λ l e. absurd cc;
   recorded = λ l h. absurd (omega arith);
   blank = λ l h e. absurd (omega arith);
-  lots = λ l i e. let z : ◌≡◌ {A = ℕ} 0 1 = cc in absurd (omega arith);
+  lots = λ l i e. absurd cc;
 }
 
 -- a lane of the contents after a write to one
@@ -93,7 +93,7 @@ no_rank [] l e = refl
 no_rank (None ∷ os) l e = no_rank os l e
 no_rank (Some (Shed c) ∷ os) l e = no_rank os l e
 no_rank (Some (Lane t q) ∷ os) l e = no_rank os l e
-no_rank (Some (Rank m) ∷ os) l e = let z : ◌≡◌ {A = ℕ} 0 1 = cc in absurd (omega arith)
+no_rank (Some (Rank m) ∷ os) l e = absurd cc
 no_rank (Some (Next i) ∷ os) l e = no_rank os l e
 
 -- a LANE word more, behind a shed and before any ranking
@@ -105,7 +105,7 @@ reads_lane os r t q some none k =
     let same = length-set c.sheds (last_shed c) (cards.more_terms (last_terms c) t q) in
     let more = length_push c.lanes fresh in
     let last = last_of_lane c t q some in
-    let unranked : (l : ℕ) → r.ranking ≡ Some l → ⊥ = λ l e. let z = ap is_some e in let y : ◌≡◌ {A = ℕ} 0 1 = cc in omega arith in
+    let unranked : (l : ℕ) → r.ranking ≡ Some l → ⊥ = λ l e. let z = ap is_some e in cc in
     let old : (l : ℕ) → l < length c.lanes → lane_of (with_lane c t q) l ≡ lane_of c l = λ l h. get_or_append_left c.lanes (fresh ∷ []) no_entry l h in
     let new : (l : ℕ) → length c.lanes ≡ l → lane_of (with_lane c t q) l ≡ fresh = λ l e. get_or_push c.lanes fresh no_entry l e in
     record {
@@ -149,7 +149,7 @@ reads_rank os r l h fresh k =
       recorded = λ m inside. at_lanes (λ n x. x.recorded ≡ (eqb l n || any_of (ranks_lane n) os)) c l m e h
           (sym (ap (λ b. b || any_of (ranks_lane l) os) (eq-eqb l l refl)))
           (λ apart. let t = k.recorded m (omega (arith, same)) in let u = ne_eqb l m (λ z. apart (sym z)) in t ∙ sym (ap (λ b. b || any_of (ranks_lane m) os) u));
-      blank = λ m inside. at_lanes (λ n x. x.recorded ≡ false → x.ranking ≡ []) c l m e h (λ z. let y : ◌≡◌ {A = ℕ} 0 1 = cc in absurd (omega arith)) (λ apart. k.blank m (omega (arith, same)));
+      blank = λ m inside. at_lanes (λ n x. x.recorded ≡ false → x.ranking ≡ []) c l m e h (λ z. absurd cc) (λ apart. k.blank m (omega (arith, same)));
       lots = λ m i is. let here : l ≡ m = cc in subst (λ n. has (lane_of (with_record c l) n).ranking i ≡ false) here (ap (λ x. has x.ranking i) (lane_here c l e h) ∙ ap (λ v. has v i) (k.blank l h fresh));
     }
 
@@ -171,7 +171,7 @@ reads_next os r l lot now k =
       known = λ m is. omega (arith, same, k.known m is);
       current = λ m is. at_lanes (λ n x. x.recorded ≡ true) c l m e h (k.current l now) (λ apart. k.current m is);
       recorded = λ m inside. at_lanes (λ n x. x.recorded ≡ any_of (ranks_lane n) os) c l m e h (k.recorded l h) (λ apart. k.recorded m (omega (arith, same)));
-      blank = λ m inside. at_lanes (λ n x. x.recorded ≡ false → x.ranking ≡ []) c l m e h (λ z. let t = k.current l now in let y : ◌≡◌ {A = ℕ} 0 1 = cc in absurd (omega arith)) (λ apart. k.blank m (omega (arith, same)));
+      blank = λ m inside. at_lanes (λ n x. x.recorded ≡ false → x.ranking ≡ []) c l m e h (λ z. let t = k.current l now in absurd cc) (λ apart. k.blank m (omega (arith, same)));
       lots = λ m i is.
           let here : l ≡ m = cc in
           let pushed = has_push (lane_of c l).ranking lot i in
@@ -228,8 +228,8 @@ wrong_flags os b Misfit = refl
 
 -- the first test that fails has the smallest number
 least : (m t u w o : Bool) (x : Refusal) → flags m t u w o x ≡ true → cond m 3 (cond t 4 (cond u 5 (cond w 6 7))) ≤ (standing x).0
-least m t u w o Ragged e = let z : ◌≡◌ {A = ℕ} 0 1 = cc in absurd (omega arith)
-least m t u w o Strange e = let z : ◌≡◌ {A = ℕ} 0 1 = cc in absurd (omega arith)
+least m t u w o Ragged e = absurd cc
+least m t u w o Strange e = absurd cc
 least m t u w o Misplaced e = grind (arith, nat_tests)
 least m t u w o TooMany e = grind (arith, nat_tests)
 least m t u w o Unknown e = grind (arith, nat_tests)
@@ -245,7 +245,7 @@ first_wrong false true u w o a x e = let is : TooMany ≡ x = cc in subst (λ y.
 first_wrong false false true w o a x e = let is : Unknown ≡ x = cc in subst (λ y. (flags false false true w o y ≡ true) × ((standing y).0 ≡ 5)) is (refl, refl)
 first_wrong false false false true o a x e = let is : Twice ≡ x = cc in subst (λ y. (flags false false false true o y ≡ true) × ((standing y).0 ≡ 6)) is (refl, refl)
 first_wrong false false false false true a x e = let is : Overtargeted ≡ x = cc in subst (λ y. (flags false false false false true y ≡ true) × ((standing y).0 ≡ 7)) is (refl, refl)
-first_wrong false false false false false a x e = let z : ◌≡◌ {A = ℕ} 0 1 = cc in absurd (omega arith)
+first_wrong false false false false false a x e = absurd cc
 
 no_flag : (x : Refusal) → flags false false false false false x ≡ false
 no_flag Ragged = refl
@@ -260,11 +260,11 @@ no_flag Short = refl
 no_flag Misfit = refl
 
 none_wrong : {A : Type 0} (m t u w o : Bool) (a s : A) → in_order m t u w o a ≡ Ok s → ((x : Refusal) → flags m t u w o x ≡ false) × (s ≡ a)
-none_wrong true t u w o a s e = let z : ◌≡◌ {A = ℕ} 0 1 = cc in absurd (omega arith)
-none_wrong false true u w o a s e = let z : ◌≡◌ {A = ℕ} 0 1 = cc in absurd (omega arith)
-none_wrong false false true w o a s e = let z : ◌≡◌ {A = ℕ} 0 1 = cc in absurd (omega arith)
-none_wrong false false false true o a s e = let z : ◌≡◌ {A = ℕ} 0 1 = cc in absurd (omega arith)
-none_wrong false false false false true a s e = let z : ◌≡◌ {A = ℕ} 0 1 = cc in absurd (omega arith)
+none_wrong true t u w o a s e = absurd cc
+none_wrong false true u w o a s e = absurd cc
+none_wrong false false true w o a s e = absurd cc
+none_wrong false false false true o a s e = absurd cc
+none_wrong false false false false true a s e = absurd cc
 none_wrong false false false false false a s e = (no_flag, cc)
 
 -- what a word that is accepted makes of the reading
@@ -335,7 +335,7 @@ judge_order os r k (Rank l) =
 judge_order os r k (Next lot) = lot_judged os r lot k r.ranking refl
 
 strange_least : (x : Refusal) → strange_only x ≡ true → 2 ≤ (standing x).0
-strange_least Ragged e = let z : ◌≡◌ {A = ℕ} 0 1 = cc in absurd (omega arith)
+strange_least Ragged e = absurd cc
 strange_least Strange e = omega arith
 strange_least Misplaced e = omega arith
 strange_least TooMany e = omega arith
@@ -368,12 +368,12 @@ reads_next_word os r k (Rank l) none =
     reads_rank os r l inside (k.recorded l inside ∙ none Twice) k
 reads_next_word os r k (Next lot) none =
     (elim r.ranking as (λ v. r.ranking ≡ v → Reads (Some (Next lot) ∷ os) (ranked r lot v)) [
-      | None ↦ λ e. let some = not-false (any_of is_rank os) (none Misplaced) in let gone = sym k.ranking ∙ ap is_some e in let z : ◌≡◌ {A = ℕ} 0 1 = cc in absurd (omega arith)
+      | None ↦ λ e. let some = not-false (any_of is_rank os) (none Misplaced) in let gone = sym k.ranking ∙ ap is_some e in absurd cc
       | Some l ↦ λ e. reads_next os r l lot e k
     ]) refl
 
 word_accepted : (os : List (Option BookWord)) (r : Reading) → Reads os r → (o : Option BookWord) (s : Reading) → judge r o ≡ Ok s → Reads (o ∷ os) s × ((x : Refusal) → faulty x os o ≡ true → ⊥)
-word_accepted os r k None s e = let z : ◌≡◌ {A = ℕ} 0 1 = cc in absurd (omega arith)
+word_accepted os r k None s e = absurd cc
 word_accepted os r k (Some b) s e =
     let found = none_wrong (misplaced os b) (too_many os b) (unknown os b) (twice os b) (overtargeted os b) (next r b) s (sym (judge_order os r k b) ∙ e) in
     let none : (x : Refusal) → wrong x os b ≡ false = λ x. wrong_flags os b x ∙ found.0 x in
@@ -403,7 +403,7 @@ unfolding rest_of earlier
 walk_clean os r k place [] s e p x h bad = omega arith
 walk_clean os r k place (w ∷ ws) s e p x h bad =
     (elim (taken r w) as (λ t. taken r w ≡ t → rest_of place ws t ≡ Ok s → ⊥) [
-      | Err y ↦ λ t g. let z : ◌≡◌ {A = ℕ} 0 1 = cc in absurd (omega arith)
+      | Err y ↦ λ t g. absurd cc
       | Ok u ↦ λ t g.
           let word = word_accepted os r k (book_word w) u t in
           (elim p as (λ p. p < length (w ∷ ws) → faulty x (earlier os (w ∷ ws) p) (book_word (get_or (w ∷ ws) p 0)) ≡ true → ⊥) [
@@ -423,7 +423,7 @@ record Found (os : List (Option BookWord)) (ws : List ℕ) (place : ℕ) (f : Fa
 
 walk_found : (os : List (Option BookWord)) (r : Reading) → Reads os r → (place : ℕ) (ws : List ℕ) (f : Fault) → walk r place ws ≡ Err f → Found os ws place f
 unfolding rest_of earlier
-walk_found os r k place [] f e = let z : ◌≡◌ {A = ℕ} 0 1 = cc in absurd (omega arith)
+walk_found os r k place [] f e = absurd cc
 walk_found os r k place (w ∷ ws) f e =
     (elim (taken r w) as (λ t. taken r w ≡ t → rest_of place ws t ≡ Err f → Found os (w ∷ ws) place f) [
       | Err x ↦ λ t g.
@@ -474,6 +474,9 @@ told ws f e =
       λ p y h bad. found.none p y (omega (arith, place)) (has p y bad),
     )
 
-pub first_fault : (ws : List ℕ) → FirstFault ws (answered (opening ws))
+first_fault : (ws : List ℕ) → FirstFault ws (answered (opening ws))
 first_fault ws =
     (elim (walk unread 0 ws) as (λ t. walk unread 0 ws ≡ t → FirstFault ws (answered (book_of t))) [ Ok s ↦ λ e. clean ws s e | Err f ↦ λ e. told ws f e ]) refl
+
+pub first_fault_answered : (ws : List ℕ) (answer : Result (Unit {0}) Fault) → answer ≡ answered (opening ws) → FirstFault ws answer
+first_fault_answered ws answer e = subst (FirstFault ws) (sym e) (first_fault ws)

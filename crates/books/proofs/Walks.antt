@@ -10,9 +10,10 @@ use Rattle.sheets.specs.declared.word.BookWord.{BookWord}
 use Rattle.sheets.specs.declared.word.BookWord.TheVariants.{Shed, Lane, Rank, Next}
 use Rattle.sheets.specs.Faults.{fault, located}
 use Rattle.sheets.specs.Progress.{admits, admits_lot, judged, accepts, passes, along, run_length}
-use Rattle.sheets.specs.Records.{Page, next_record, record_progress}
+use Rattle.sheets.specs.declared.reader.Part.{Part}
+use Rattle.sheets.specs.Records.{Page, page, next_record, record_progress}
 use Rattle.sheets.specs.Words.{book_word}
-use Rattle.sheets.proofs.Passes.{Handed}
+use Rattle.sheets.proofs.Passes.{Handed, handed}
 use Rattle.sheets.proofs.Admits.{lane_admitted}
 use Rattle.sharing.specs.Cards.{overtargeted, more_terms}
 use Rattle.books.specs.Contents.{Contents, last_terms, last_shed, no_shed, with_shed, with_lane, with_record, with_lot, lane_of, ranked_entry, recorded_entry}
@@ -30,9 +31,6 @@ accepted_outcome (Err y) s o = cc
 
 pub outcome_refused : {E : Type 0} (t : Result Reading E) (x : E) (s : Reading) → t ≡ Err x → Outcome t (Err x) s
 outcome_refused t x s e = subst (λ u. Outcome u (Err x) s) (sym e) refl
-
-pub outcome_accepted : {E : Type 0} (t : Result Reading E) (s : Reading) → t ≡ Ok s → Outcome t (Ok tt) s
-outcome_accepted t s e = subst (λ u. Outcome u (Ok tt) s) (sym e) (refl, refl)
 
 -- nested tests that came out accepted
 pub one_test : {A E : Type 0} (b : Bool) (e : E) (x s : A) → ◌≡◌ {A = Result A E} (elim b [ true ↦ Err e | false ↦ Ok x ]) (Ok s) → s ≡ x
@@ -118,15 +116,6 @@ progress_noted r s (Rank l) q a n =
     ap progress_of is ∙ entry_progress r.book (Some l) l (recorded_entry (lane_of r.book l)) ∙ sym then
 progress_noted r s (Next lot) q a n = lot_noted r s lot r.ranking n ∙ lot_then (progress_of r) q a
 
--- one word
-noted_when : (t : Result Progress Refusal) (n : Result Reading Refusal) → is_ok t ≡ true → before t n ≡ n
-noted_when (Ok p) n e = refl
-noted_when (Err x) n e = let z : ◌≡◌ {A = ℕ} 0 1 = cc in absurd (omega arith)
-
-pub word_taken : (r : Reading) (w : ℕ) (b : BookWord) → book_word w ≡ Some b → is_ok (admits (progress_of r) b) ≡ true → taken r w ≡ noted r b
-word_taken r w b is admitted =
-    ap (judge r) is ∙ noted_when (admits (progress_of r) b) (noted r b) admitted
-
 accepted_then : (r u : Reading) (q : Progress) (o : Option BookWord) → elim o [ None ↦ None | Some b ↦ result_ok (admits (progress_of r) b) ] ≡ Some q →
     judge r o ≡ Ok u → progress_of u ≡ q
 accepted_then r u q None a n = cc
@@ -140,14 +129,14 @@ accepted_then r u q (Some b) a n =
 pub step_accepted : (r s : Reading) (place w : ℕ) (ws : List ℕ) → passes (progress_of r) (w ∷ ws) ≡ true → taken r w ≡ Ok s → passes (progress_of s) ws ≡ true
 step_accepted r s place w ws pass e =
     (elim (accepts (progress_of r) w) as (λ o. accepts (progress_of r) w ≡ o → elim o [ None ↦ false | Some q ↦ passes q ws ] ≡ true → passes (progress_of s) ws ≡ true) [
-      | None ↦ λ a h. let z : ◌≡◌ {A = ℕ} 0 1 = cc in absurd (omega arith)
+      | None ↦ λ a h. absurd cc
       | Some q ↦ λ a h. ap (λ p. passes p ws) (accepted_then r s q (book_word w) a e) ∙ h
     ]) refl pass
 
 along_accepted : (r s : Reading) (w : ℕ) (ws : List ℕ) → passes (progress_of r) (w ∷ ws) ≡ true → taken r w ≡ Ok s → along (progress_of s) ws ≡ along (progress_of r) (w ∷ ws)
 along_accepted r s w ws pass e =
     (elim (accepts (progress_of r) w) as (λ o. accepts (progress_of r) w ≡ o → elim o [ None ↦ false | Some q ↦ passes q ws ] ≡ true → along (progress_of s) ws ≡ elim o [ None ↦ progress_of r | Some q ↦ along q ws ]) [
-      | None ↦ λ a h. let z : ◌≡◌ {A = ℕ} 0 1 = cc in absurd (omega arith)
+      | None ↦ λ a h. absurd cc
       | Some q ↦ λ a h. ap (λ p. along p ws) (accepted_then r s q (book_word w) a e)
     ]) refl pass
 
@@ -176,13 +165,6 @@ first_accepted r s place w ws pass e = let t = taken_from_walk (taken r w) place
 pub first_refused : (r : Reading) (place w : ℕ) (ws : List ℕ) (f : Fault) → walk r place (w ∷ []) ≡ Err f → walk r place (w ∷ ws) ≡ Err f
 first_refused r place w ws f e = refused_from_walk (taken r w) place f ws e
 
-pub first_passes : (p : Progress) (w : ℕ) (ws : List ℕ) → passes p (w ∷ ws) ≡ true → is_some (accepts p w) ≡ true
-first_passes p w ws e =
-    (elim (accepts p w) as (λ o. elim o [ None ↦ false | Some q ↦ passes q ws ] ≡ true → is_some o ≡ true) [
-      | None ↦ λ h. h
-      | Some q ↦ λ h. refl
-    ]) e
-
 -- a walk over a record and what is behind it
 pub walk_append : (r : Reading) (place : ℕ) (xs ys : List ℕ) → walk r place (xs ++ ys) ≡ onto (place + length xs) ys (walk r place xs)
 walk_append r place [] ys = ap (λ n. walk r n ys) (omega arith)
@@ -197,7 +179,7 @@ pub walk_progress : (r s : Reading) (place : ℕ) (ws : List ℕ) → passes (pr
 walk_progress r s place [] pass e = let same : s ≡ r = cc in ap progress_of same
 walk_progress r s place (w ∷ ws) pass e =
     (elim (taken r w) as (λ t. taken r w ≡ t → behind place ws t ≡ Ok s → progress_of s ≡ along (progress_of r) (w ∷ ws)) [
-      | Err x ↦ λ t h. let z : ◌≡◌ {A = ℕ} 0 1 = cc in absurd (omega arith)
+      | Err x ↦ λ t h. absurd cc
       | Ok u ↦ λ t h. walk_progress u s (suc place) ws (step_accepted r u place w ws pass t) h ∙ along_accepted r u w ws pass t
     ]) refl e
 
@@ -207,7 +189,7 @@ judged_refused : (r : Reading) (place : ℕ) (ws : List ℕ) (f : Fault) (o : Op
 judged_refused r place ws f None e = cc
 judged_refused r place ws f (Some b) e =
     (elim (admits (progress_of r) b) as (λ t. located place t ≡ Err f → behind place ws (before t (noted r b)) ≡ Err f) [
-      | Ok p ↦ λ h. let z : ◌≡◌ {A = ℕ} 0 1 = cc in absurd (omega arith)
+      | Ok p ↦ λ h. absurd cc
       | Err x ↦ λ h. cc
     ]) e
 
@@ -220,22 +202,8 @@ record_refused r place (w ∷ ws) f e =
       | Ok q ↦ λ h. cc
     ]) e)
 
-ok_from_part : (t : Result Progress Refusal) → is_some (result_ok t) ≡ true → is_ok t ≡ true
-ok_from_part (Ok p) e = refl
-ok_from_part (Err x) e = e
-
-accepted_word : (p : Progress) (o : Option BookWord) (b : BookWord) → o ≡ Some b → is_some (elim o [ None ↦ None | Some b ↦ result_ok (admits p b) ]) ≡ true → is_ok (admits p b) ≡ true
-accepted_word p o b is some = ok_from_part (admits p b) (subst (λ o. is_some (elim o [ None ↦ None | Some b ↦ result_ok (admits p b) ]) ≡ true) is some)
-
--- an accepted word that the book refuses
-pub word_refused : (r : Reading) (place w : ℕ) (b : BookWord) (x : Refusal) → book_word w ≡ Some b → is_some (accepts (progress_of r) w) ≡ true → noted r b ≡ Err x → walk r place (w ∷ []) ≡ Err (fault x place)
-word_refused r place w b x is some e = ap (behind place []) (word_taken r w b is (accepted_word (progress_of r) (book_word w) b is some) ∙ e)
-
--- the same at a place of a list of words
+-- the first word that is left of a list decides, or the walk goes on behind it
 module _ (ws : List ℕ) (i : ℕ) (h : i < length ws) where
-  pub at_passes : (p : Progress) → passes p (drop i ws) ≡ true → is_some (accepts p (get_or ws i 0)) ≡ true
-  at_passes p pass = first_passes p (get_or ws i 0) (drop (i + 1) ws) (subst (λ v. passes p v ≡ true) (drop_more ws i 0 h) pass)
-
   pub at_accepted : (r s : Reading) (place : ℕ) → passes (progress_of r) (drop i ws) ≡ true → walk r (place + i) (get_or ws i 0 ∷ []) ≡ Ok s →
       (passes (progress_of s) (drop (i + 1) ws) ≡ true) × (walk s (place + (i + 1)) (drop (i + 1) ws) ≡ walk r (place + i) (drop i ws))
   at_accepted r s place pass e =
@@ -246,24 +214,32 @@ module _ (ws : List ℕ) (i : ℕ) (h : i < length ws) where
   pub at_refused : (r : Reading) (place : ℕ) (f : Fault) → walk r (place + i) (get_or ws i 0 ∷ []) ≡ Err f → walk r (place + i) (drop i ws) ≡ Err f
   at_refused r place f e = ap (walk r (place + i)) (drop_more ws i 0 h) ∙ first_refused r (place + i) (get_or ws i 0) (drop (i + 1) ws) f e
 
--- a record of the sheet that is read, or at which the sheet is refused
-module _ (r : Reading) (sheet : List ℕ) (at : ℕ) (page : Page) (hand : Handed (progress_of r) at (drop at sheet) page) where
-  whole_walk : walk r at (drop at sheet) ≡ onto (at + length page.words) (drop (at + length page.words) sheet) (walk r page.place page.words)
-  whole_walk =
-      ap (walk r at) (sym hand.front)
-      ∙ walk_append r at page.words (drop (length page.words) (drop at sheet))
-      ∙ ap (λ v. onto (at + length page.words) v (walk r at page.words)) (drop-drop (length page.words) at sheet)
-      ∙ ap (λ n. onto (at + length page.words) (drop (at + length page.words) sheet) (walk r n page.words)) (sym hand.place)
+-- a record that the reader hands out or refuses, where what it knows is what the book says: the walk reads the record and
+-- goes on behind it, or stops in it
+module _ (r : Reading) (p : Progress) (at : ℕ) (ws : List ℕ) (known : p ≡ progress_of r) where
+  pub part_refused : (f : Fault) → Err f ≡ next_record p at ws → walk r at ws ≡ Err f
+  part_refused f e = record_refused r at ws f (ap (λ q. next_record q at ws) (sym known) ∙ sym e)
 
-  pub record_read : (s : Reading) → walk r page.place page.words ≡ Ok s →
-      (record_progress (progress_of r) at (drop at sheet) ≡ progress_of s) × (walk s (at + length page.words) (drop (at + length page.words) sheet) ≡ walk r at (drop at sheet))
-  record_read s e = (
-    hand.progress ∙ sym (walk_progress r s page.place page.words hand.passing e),
-    sym (whole_walk ∙ ap (onto (at + length page.words) (drop (at + length page.words) sheet)) e),
-  )
+  module _ (part : Part) (e : Ok (Some (page part)) ≡ next_record p at ws) where
+    pub part_handed : Handed (progress_of r) at ws (page part)
+    part_handed = handed (progress_of r) at ws (page part) (ap (λ q. next_record q at ws) (sym known) ∙ sym e)
 
-  pub record_stopped : (f : Fault) → walk r page.place page.words ≡ Err f → walk r at (drop at sheet) ≡ Err f
-  record_stopped f e = whole_walk ∙ ap (onto (at + length page.words) (drop (at + length page.words) sheet)) e
+    whole_walk : walk r at ws ≡ onto (at + length part.words.now) (drop (length part.words.now) ws) (walk r part.place part.words.now)
+    whole_walk =
+        ap (walk r at) (sym part_handed.front)
+        ∙ walk_append r at part.words.now (drop (length part.words.now) ws)
+        ∙ ap (λ n. onto (at + length part.words.now) (drop (length part.words.now) ws) (walk r n part.words.now)) (sym part_handed.place)
 
+    pub part_read : (s : Reading) → walk r part.place part.words.now ≡ Ok s →
+        (record_progress p at ws ≡ progress_of s) × (walk s (at + length part.words.now) (drop (length part.words.now) ws) ≡ walk r at ws)
+    part_read s e = (
+      ap (λ q. record_progress q at ws) known ∙ part_handed.progress ∙ sym (walk_progress r s part.place part.words.now part_handed.passing e),
+      sym (whole_walk ∙ ap (onto (at + length part.words.now) (drop (length part.words.now) ws)) e),
+    )
+
+    pub part_stopped : (f : Fault) → walk r part.place part.words.now ≡ Err f → walk r at ws ≡ Err f
+    part_stopped f e = whole_walk ∙ ap (onto (at + length part.words.now) (drop (length part.words.now) ws)) e
+
+-- what the whole sheet means, from its walk
 pub opening_refused : (sheet : List ℕ) (f : Fault) → walk unread 0 sheet ≡ Err f → opening sheet ≡ Err f
 opening_refused sheet f e = ap (λ t. elim t [ Err g ↦ Err g | Ok r ↦ Ok r.book ]) e

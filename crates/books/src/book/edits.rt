@@ -1,4 +1,4 @@
-ghost use Rattle.std.specs.Prelude.{◌≡◌, ℕ, ◌+◌, ◌<◌, ◌≤◌, false, not, length, if◌then◌else◌};
+ghost use Rattle.std.specs.Prelude.{◌≡◌, ℕ, ◌+◌, ◌<◌, ◌≤◌, false, is_ok, length, if◌then◌else◌};
 ghost use Rattle.books.specs.Lanes.{has};
 ghost use Rattle.books.specs.Contents.{contents, nothing, with_shed, with_lane, with_record, with_lot, last_terms, lane_of};
 ghost use Rattle.sharing.specs.Cards.{overtargeted};
@@ -6,6 +6,7 @@ ghost use Rattle.sharing.specs.Cards.{overtargeted};
 use crate::book::Book;
 use crate::lane::Lane;
 use sharing::card::Card;
+use sheets::fault::Refusal;
 
 impl Book {
     // The empty book: no shed, no lane.
@@ -32,25 +33,25 @@ impl Book {
         self.sheds = shed + 1;
     }
 
-    // One lane more in the last shed, without a ranking; false where the targets do not allow it, and then nothing moves.
-    pub(super) fn add_lane(&mut self, target: u16, capacity: u16) -> bool
+    // One lane more in the last shed, without a ranking; refused where the targets do not allow it, and then nothing moves.
+    pub(super) fn add_lane(&mut self, target: u16, capacity: u16) -> Result<(), Refusal>
         requires shed { 0 < self.old.sheds }
         requires lanes { self.old.lane_count < 32 }
         requires room { length (last_terms (contents self.old)).capacities < 8 }
         requires small { capacity ≤ 4095 }
-        ensures answer { result ≡ not (overtargeted (last_terms (contents self.old)) target capacity) }
-        ensures book { contents self.new ≡ (if result then with_lane (contents self.old) target capacity else contents self.old) }
+        ensures answer { result ≡ (if overtargeted (last_terms (contents self.old)) target capacity then Err Refusal.Overtargeted else Ok tt) }
+        ensures book { contents self.new ≡ (if is_ok result then with_lane (contents self.old) target capacity else contents self.old) }
     {
         let shed = self.sheds - 1;
         let card = self.cards[shed];
-        let Some(wider) = card.with_lane(target, capacity) else {
-            return false;
-        };
+        let wider = card
+            .with_lane(target, capacity)
+            .ok_or(Refusal::Overtargeted)?;
         let at = self.lane_count;
         self.lanes[at] = Lane::new(shed as u8, card.lanes as u8);
         self.lane_count = at + 1;
         self.cards[shed] = wider;
-        true
+        Ok(())
     }
 
     // A ranking record for a lane.

@@ -1,4 +1,4 @@
-use Rattle.std.proofs.Common.{◌≡◌, ℕ, ◌+◌, ◌-◌, ◌<◌, ◌≤◌, false, not, [], ◌∷◌, ◌++◌, length, get_or, set, sym, refl, ap, ◌∙◌, subst, arith, length-take, rules}
+use Rattle.std.proofs.Common.{◌≡◌, ℕ, ◌+◌, ◌-◌, ◌<◌, ◌≤◌, false, not, [], ◌∷◌, ◌++◌, length, get_or, set, Some, sym, refl, ap, ◌∙◌, subst, arith, length-take, rules}
 use Rattle.std.proofs.lemmas.Bool.Decides.{nat_tests}
 use Rattle.std.specs.Option.{option_map}
 use Rattle.sharing.specs.declared.card.Card.{Card}
@@ -18,31 +18,16 @@ last_shed_is b = ap (λ n. n - 1) (sheds_length b)
 last_terms_is : (b : Book) (d : Card) → 0 < b.sheds → last_terms (contents b) ≡ terms (get_or b.cards (b.sheds - 1) d)
 last_terms_is b d some = ap (λ n. get_or (contents b).sheds n no_shed) (last_shed_is b) ∙ shown_at terms b.cards b.sheds (b.sheds - 1) d no_shed (omega arith) (omega (arith, b.card_places, b.few_sheds))
 
--- a lane that has room and a capacity of its kind is refused only for its target
-refused_for_target : (t : Terms) (target capacity : ℕ) → length t.capacities < 8 → capacity ≤ 4095 → unfit t target capacity ≡ overtargeted t target capacity
-refused_for_target t target capacity room small = grind (arith, nat_tests)
-
-pub returns-in_default : goal.returns-in_default
-returns-in_default c =
-    let b = c.args.self.now in
-    let card = get_or b.cards (b.sheds - 1) c.index-self-shed.result in
-    let last = last_terms_is b c.index-self-shed.result (search rules) in
-    let refused = lane_refused (terms card) c.args.target c.args.capacity (sym c.with_lane.ensures ∙ ap (option_map terms) c.in_default.is) in
-    let why = refused_for_target (terms card) c.args.target c.args.capacity (subst (λ t. length t.capacities < 8) last c.requires.room) c.requires.small in
-    record {
-      answer = ap not (sym refused ∙ why ∙ ap (λ t. overtargeted t c.args.target c.args.capacity) (sym last));
-      book = refl;
-    }
-
 pub invariant_of-self : goal.invariant_of-self
 invariant_of-self c =
     let b = c.args.self.now in
     let last = b.sheds - 1 in
     let n = b.lane_count in
     let card = get_or b.cards last c.index-self-shed.result in
-    let wider = c.in-Some.wider in
+    let wider = c.in_ok-wider.wider in
     let blank : Ranks c.new.result = subst Ranks (sym c.new.ensures) (refl, omega arith, refl, refl) in
-    let taken = lane_taken (terms card) (terms wider) c.args.target c.args.capacity (sym c.with_lane.ensures ∙ ap (option_map terms) c.in-Some.is) in
+    let some : c.with_lane.result ≡ Some wider = search rules in
+    let taken = lane_taken (terms card) (terms wider) c.args.target c.args.capacity (sym c.with_lane.ensures ∙ ap (option_map terms) some) in
     let longer = one_lane_more card wider c.args.target c.args.capacity taken.1 in
     let inside : last < length b.cards = omega (arith, b.card_places, b.few_sheds, c.requires.shed) in
     let next : b.sheds ≡ last + 1 = omega (arith, c.requires.shed) in
@@ -62,27 +47,25 @@ invariant_of-self c =
       all_lanes = omega (arith, sum_written b.cards last wider b.sheds next inside, b.all_lanes);
     }
 
-pub returns : goal.returns
-returns c =
+pub returns-clause-book : goal.returns-clause-book
+returns-clause-book c =
     let b = c.args.self.now in
     let card = get_or b.cards (b.sheds - 1) c.index-self-shed.result in
     let t = c.args.target in
     let q = c.args.capacity in
     let last = last_terms_is b c.index-self-shed.result (search rules) in
     let at = last_shed_is b in
-    let taken = lane_taken (terms card) (terms c.in-Some.wider) t q (sym c.with_lane.ensures ∙ ap (option_map terms) c.in-Some.is) in
-    let why = refused_for_target (terms card) t q (subst (λ t. length t.capacities < 8) last c.requires.room) c.requires.small in
+    let wider = c.in_ok-wider.wider in
+    let some : c.with_lane.result ≡ Some wider = search rules in
+    let taken = lane_taken (terms card) (terms c.in_ok-wider.wider) t q (sym c.with_lane.ensures ∙ ap (option_map terms) some) in
     let place : length (terms card).capacities ≡ card.lanes = simp length-take (omega (arith, card.eight_capacities, card.few_lanes)) in
-    let sheds : set (contents b).sheds (b.sheds - 1) (terms c.in-Some.wider) ≡ set (contents b).sheds (last_shed (contents b)) (more_terms (last_terms (contents b)) t q) =
+    let sheds : set (contents b).sheds (b.sheds - 1) (terms c.in_ok-wider.wider) ≡ set (contents b).sheds (last_shed (contents b)) (more_terms (last_terms (contents b)) t q) =
     λ i. set (contents b).sheds (sym at i) ((taken.1 ∙ ap (λ u. more_terms u t q) (sym last)) i)
     in
     let lane : entry c.new.result ≡ record { shed = last_shed (contents b); place = length (last_terms (contents b)).capacities; recorded = false; ranking = [] } =
     ap entry c.new.ensures ∙ (λ i. record { shed = sym at i; place = (sym place ∙ ap (λ u. length u.capacities) (sym last)) i; recorded = false; ranking = [] })
     in
-    record {
-      answer = ap not (sym taken.0 ∙ why ∙ ap (λ u. overtargeted u t q) (sym last));
-      book = λ i. record {
-        sheds = (shown_set terms b.cards b.sheds (b.sheds - 1) c.in-Some.wider (search rules) ∙ sheds) i;
-        lanes = (shown_push entry b.lanes b.lane_count c.new.result (search rules) ∙ ap (λ e. (contents b).lanes ++ e ∷ []) lane) i;
-      };
+    λ i. record {
+      sheds = (shown_set terms b.cards b.sheds (b.sheds - 1) wider (search rules) ∙ sheds) i;
+      lanes = (shown_push entry b.lanes b.lane_count c.new.result (search rules) ∙ ap (λ e. (contents b).lanes ++ e ∷ []) lane) i;
     }
