@@ -1,67 +1,26 @@
 -- A list of distinct numbers below n has at most n of them: a ranking never wants a 257th place.
-use Rattle.std.proofs.Common.{◌≡◌, ℕ, zero, suc, ◌<◌, ◌≤◌, true, false, ◌||◌, eqb, List, [], ◌∷◌, ◌++◌, length, refl, ap, inl, inr, arith}
+use Rattle.std.proofs.Common.{◌≡◌, ℕ, ◌<◌, ◌≤◌, true, false, ◌||◌, eqb, List, [], ◌∷◌, ◌++◌, length, refl, arith}
 use Rattle.std.proofs.lemmas.Bool.Decides.{nat_tests as tells}
-use Rattle.std.proofs.lemmas.Bool.{cases_Bool, eqb-true}
+use Rattle.std.proofs.lemmas.Map.Steps.{length-le_from_distinct_below}
+use Rattle.std.specs.List.{AllByRecursion, IsDistinct, list_any}
 use Rattle.books.specs.Lanes.{has, distinct, all_below}
 
--- a list without the first v in it
-without : ℕ → List ℕ → List ℕ
-without v [] = []
-without v (x ∷ xs) = elim (eqb x v) [ true ↦ xs | false ↦ x ∷ without v xs ]
+-- the facts in the library's words
+apart_from : (v : ℕ) (xs : List ℕ) → has xs v ≡ false → AllByRecursion (λ y. eqb v y ≡ false) xs
+apart_from v [] h = tt
+apart_from v (x ∷ xs) h = (grind (arith, tells), apart_from v xs (grind (arith, tells)))
 
-without_here : (v x : ℕ) (xs : List ℕ) → eqb x v ≡ true → without v (x ∷ xs) ≡ xs
-unfolding without
-without_here v x xs e = ap (λ b. elim b [ true ↦ xs | false ↦ x ∷ without v xs ]) e
+is_distinct : (xs : List ℕ) → distinct xs ≡ true → IsDistinct eqb xs
+unfolding IsDistinct
+is_distinct [] d = tt
+is_distinct (x ∷ xs) d = (apart_from x xs (grind (arith, tells)), is_distinct xs (grind (arith, tells)))
 
-without_later : (v x : ℕ) (xs : List ℕ) → eqb x v ≡ false → without v (x ∷ xs) ≡ x ∷ without v xs
-unfolding without
-without_later v x xs e = ap (λ b. elim b [ true ↦ xs | false ↦ x ∷ without v xs ]) e
-
-length_without : (v : ℕ) (xs : List ℕ) → length xs ≤ suc (length (without v xs))
-length_without v [] = omega arith
-length_without v (x ∷ xs) =
-    elim (cases_Bool (eqb x v)) [
-      | inl e ↦ rw (without_here v x xs e) (omega arith)
-      | inr e ↦ rw (without_later v x xs e) (omega (arith, length_without v xs))
-    ]
-
-has_without : (v i : ℕ) (xs : List ℕ) → has xs i ≡ false → has (without v xs) i ≡ false
-unfolding without
-has_without v i [] h = refl
-has_without v i (x ∷ xs) h =
-    elim (cases_Bool (eqb x v)) [
-      | inl e ↦ rw (without_here v x xs e) (grind (arith, tells))
-      | inr e ↦ rw (without_later v x xs e) (let t = has_without v i xs in grind (arith, tells))
-    ]
-
-distinct_without : (v : ℕ) (xs : List ℕ) → distinct xs ≡ true → distinct (without v xs) ≡ true
-unfolding without
-distinct_without v [] d = refl
-distinct_without v (x ∷ xs) d =
-    elim (cases_Bool (eqb x v)) [
-      | inl e ↦ rw (without_here v x xs e) (grind (arith, tells))
-      | inr e ↦ rw (without_later v x xs e) (let t = has_without v x xs in let u = distinct_without v xs in grind (arith, tells))
-    ]
-
-below_less : (n : ℕ) (xs : List ℕ) → all_below (suc n) xs ≡ true → has xs n ≡ false → all_below n xs ≡ true
-below_less n [] b h = refl
-below_less n (x ∷ xs) b h = let t = below_less n xs in grind (arith, tells)
-
-below_without : (n : ℕ) (xs : List ℕ) → all_below (suc n) xs ≡ true → distinct xs ≡ true → all_below n (without n xs) ≡ true
-unfolding without
-below_without n [] b d = refl
-below_without n (x ∷ xs) b d =
-    elim (cases_Bool (eqb x n)) [
-      | inl e ↦ rw (without_here n x xs e) (below_less n xs (grind (arith, tells)) (let same = eqb-true x n e in grind (arith, tells)))
-      | inr e ↦ rw (without_later n x xs e) (let t = below_without n xs in grind (arith, tells))
-    ]
+listed_below : (n v : ℕ) (xs : List ℕ) → all_below n xs ≡ true → list_any (eqb v) xs ≡ true → v < n
+listed_below n v [] b h = absurd cc
+listed_below n v (x ∷ xs) b h = let t = listed_below n v xs in grind (arith, tells)
 
 pub distinct_short : (n : ℕ) (xs : List ℕ) → all_below n xs ≡ true → distinct xs ≡ true → length xs ≤ n
-distinct_short zero [] b d = omega arith
-distinct_short zero (x ∷ xs) b d = absurd (grind (arith, tells))
-distinct_short (suc n) xs b d =
-    let short = distinct_short n (without n xs) (below_without n xs b d) (distinct_without n xs d) in
-    omega (arith, length_without n xs)
+distinct_short n xs b d = length-le_from_distinct_below xs n (is_distinct xs d) (λ v. listed_below n v xs b)
 
 -- so a lot below n that is not in it finds room
 pub distinct_room : (n i : ℕ) (xs : List ℕ) → all_below n xs ≡ true → distinct xs ≡ true → i < n → has xs i ≡ false → length xs < n
