@@ -182,16 +182,12 @@ reads_next os r l lot now k =
 
 -- the five tests of a word that is not strange, and the order in which they are made
 abbrev flags : Bool → Bool → Bool → Bool → Bool → Refusal → Bool
-flags m t u w o Ragged = false
-flags m t u w o Strange = false
 flags m t u w o Misplaced = m
 flags m t u w o TooMany = t
 flags m t u w o Unknown = u
 flags m t u w o Twice = w
 flags m t u w o Overtargeted = o
-flags m t u w o Idle = false
-flags m t u w o Short = false
-flags m t u w o Misfit = false
+flags m t u w o _ = false
 
 abbrev in_order : {A : Type 0} → Bool → Bool → Bool → Bool → Bool → A → Result A Refusal
 in_order m t u w o a =
@@ -216,28 +212,13 @@ in_order m t u w o a =
 wrong_flags : (os : List (Option BookWord)) (b : BookWord) (x : Refusal) →
     wrong x os b ≡ flags (misplaced os b) (too_many os b) (unknown os b) (twice os b) (overtargeted os b) x
 wrong_flags os b Ragged = refl
-wrong_flags os b Strange = refl
-wrong_flags os b Misplaced = refl
-wrong_flags os b TooMany = refl
-wrong_flags os b Unknown = refl
-wrong_flags os b Twice = refl
-wrong_flags os b Overtargeted = refl
-wrong_flags os b Idle = refl
-wrong_flags os b Short = refl
-wrong_flags os b Misfit = refl
+wrong_flags os b _ = refl
 
 -- the first test that fails has the smallest number
 least : (m t u w o : Bool) (x : Refusal) → flags m t u w o x ≡ true → cond m 3 (cond t 4 (cond u 5 (cond w 6 7))) ≤ (standing x).0
 least m t u w o Ragged e = absurd cc
 least m t u w o Strange e = absurd cc
-least m t u w o Misplaced e = grind (arith, nat_tests)
-least m t u w o TooMany e = grind (arith, nat_tests)
-least m t u w o Unknown e = grind (arith, nat_tests)
-least m t u w o Twice e = grind (arith, nat_tests)
-least m t u w o Overtargeted e = grind (arith, nat_tests)
-least m t u w o Idle e = grind (arith, nat_tests)
-least m t u w o Short e = grind (arith, nat_tests)
-least m t u w o Misfit e = grind (arith, nat_tests)
+least m t u w o _ e = grind (arith, nat_tests)
 
 first_wrong : {A : Type 0} (m t u w o : Bool) (a : A) (x : Refusal) → in_order m t u w o a ≡ Err x → (flags m t u w o x ≡ true) × ((standing x).0 ≡ cond m 3 (cond t 4 (cond u 5 (cond w 6 7))))
 first_wrong true t u w o a x e = let is : Misplaced ≡ x = cc in subst (λ y. (flags true t u w o y ≡ true) × ((standing y).0 ≡ 3)) is (refl, refl)
@@ -249,15 +230,7 @@ first_wrong false false false false false a x e = absurd cc
 
 no_flag : (x : Refusal) → flags false false false false false x ≡ false
 no_flag Ragged = refl
-no_flag Strange = refl
-no_flag Misplaced = refl
-no_flag TooMany = refl
-no_flag Unknown = refl
-no_flag Twice = refl
-no_flag Overtargeted = refl
-no_flag Idle = refl
-no_flag Short = refl
-no_flag Misfit = refl
+no_flag _ = refl
 
 none_wrong : {A : Type 0} (m t u w o : Bool) (a s : A) → in_order m t u w o a ≡ Ok s → ((x : Refusal) → flags m t u w o x ≡ false) × (s ≡ a)
 none_wrong true t u w o a s e = absurd cc
@@ -336,15 +309,7 @@ judge_order os r k (Next lot) = lot_judged os r lot k r.ranking refl
 
 strange_least : (x : Refusal) → strange_only x ≡ true → 2 ≤ (standing x).0
 strange_least Ragged e = absurd cc
-strange_least Strange e = omega arith
-strange_least Misplaced e = omega arith
-strange_least TooMany e = omega arith
-strange_least Unknown e = omega arith
-strange_least Twice e = omega arith
-strange_least Overtargeted e = omega arith
-strange_least Idle e = omega arith
-strange_least Short e = omega arith
-strange_least Misfit e = omega arith
+strange_least _ e = omega arith
 
 -- the walk refuses a word with its first fault
 word_refused : (os : List (Option BookWord)) (r : Reading) → Reads os r → (o : Option BookWord) (x : Refusal) → judge r o ≡ Err x →
