@@ -6,13 +6,13 @@ use Rattle.std.proofs.Math.Logic.{inl, inr}
 use native.Mathlib.Omega.{arith}
 use Rattle.std.proofs.Math.ListN.{length-set}
 use Rattle.std.proofs.lemmas.List.FromFn.{get_or-map-range_with_len, length-map-range_with_len}
-use Rattle.std.proofs.lemmas.List.{get_or-set_same, get_or-set_other, get_or-replicate, get_or_past, get_or-take, length-take-le, ext_get_or}
+use Rattle.std.proofs.lemmas.List.{get_or-set_same, get_or-set_other, get_or-take, length-take-le, ext_get_or}
 use Rattle.std.proofs.lemmas.Bool.{cases_Bool, cases_lt, cases_eq, both_ways, lt-ltb, ltb-true, ltb-false, and_parts, and_cases}
 use Rattle.sharing.specs.Cards.{Terms}
 use Rattle.sharing.specs.LineUp.{count_to, ahead, front, line_up, Front, better, pick, deal}
 use Rattle.sharing.specs.Orders.{Standing, Open, Ordered}
 use Rattle.sharing.specs.Rules.{at, lanes, on_card, places, sum_to, kept}
-use Rattle.sharing.specs.Sums.{count_most, count_least, sum_mono, sum_less, sum_set}
+use Rattle.sharing.specs.Sums.{at-zeros, count_most, count_least, sum_mono, sum_less, sum_set}
 
 module _ (s : Standing) (o : Ordered s) (c : Terms) (x : List ℕ) where
   -- a lane with a place can have places
@@ -189,19 +189,16 @@ module _ (s : Standing) (o : Ordered s) (c : Terms) (x : List ℕ) where
         | Some b ↦ λ f. deals few m (n + 1) (slice_set k b (at k b + 1)) (one_more few n k b d f) (omega arith)
       ]) (picks k (lanes c))
 
-  zeros : (l : ℕ) → at (replicate 8 0) l ≡ 0
-  zeros l = elim (cases_lt l 8) [ inl h ↦ get_or-replicate 8 l 0 0 h | inr h ↦ get_or_past (replicate 8 0) l 0 h ]
-
   none_kept : (n : ℕ) → sum_to (at (replicate 8 0)) n ≡ 0
   none_kept zero = refl
-  none_kept (suc n) = omega (arith, zeros n, none_kept n)
+  none_kept (suc n) = omega (arith, at-zeros 8 n, none_kept n)
 
   undealt : Dealt 0 (replicate 8 0)
   undealt = record {
     long = refl;
-    inside = λ l h. omega (arith, zeros l);
+    inside = λ l h. omega (arith, at-zeros 8 l);
     many = none_kept (lanes c);
-    first = λ l h i j a b low high past room. absurd (omega (arith, zeros l));
+    first = λ l h i j a b low high past room. absurd (omega (arith, at-zeros 8 l));
   }
 
   pub dealt_front : lanes c ≤ 8 → Front s c x (deal s c x c.limit (replicate 8 0))

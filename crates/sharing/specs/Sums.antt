@@ -1,12 +1,16 @@
 -- Counts of places and sums over lanes.
-use Rattle.std.specs.Prelude.{◌≡◌, ℕ, zero, suc, ◌+◌, ◌<◌, ◌≤◌, Bool, true, ◌⊎◌, List, length, slice_set, refl}
+use Rattle.std.specs.Prelude.{◌≡◌, ℕ, zero, suc, ◌+◌, ◌<◌, ◌≤◌, Bool, true, ◌⊎◌, List, length, replicate, slice_set, refl}
 use Rattle.std.proofs.Common.{sym, ap, subst, ◌∙◌, inl, inr, arith}
-use Rattle.std.proofs.lemmas.List.{get_or-set_same, get_or-set_other, get_or-take}
+use Rattle.std.proofs.lemmas.List.{get_or-set_same, get_or-set_other, get_or-take, get_or-replicate, get_or_past, length-replicate}
 use Rattle.std.proofs.lemmas.Bool.{cases_Bool, cases_lt, cases_eq}
 use Rattle.std.proofs.lemmas.Bool.Decides.{nat_tests}
 use Rattle.sharing.specs.LineUp.{count_to}
 use Rattle.sharing.specs.Cards.{Terms}
 use Rattle.sharing.specs.Rules.{at, lanes, on_card, sum_to}
+
+-- a row of zeros has 0 at every lane
+pub at-zeros : (n l : ℕ) → at (replicate n 0) l ≡ 0
+at-zeros n l = elim (cases_lt l n) [ inl h ↦ get_or-replicate n l 0 0 h | inr h ↦ get_or_past (replicate n 0) l 0 (omega (arith, length-replicate {A = ℕ} n 0)) ]
 
 pub count_all : (p : ℕ → Bool) (n : ℕ) → count_to p n ≤ n
 count_all p zero = omega arith
