@@ -1,6 +1,7 @@
 -- A list of distinct numbers below n has at most n of them: a ranking never wants a 257th place.
-use Rattle.std.proofs.Common.{◌≡◌, ℕ, ◌<◌, ◌≤◌, true, false, ◌||◌, eqb, List, [], ◌∷◌, ◌++◌, length, refl, arith}
+use Rattle.std.proofs.Common.{◌≡◌, ℕ, ◌<◌, ◌≤◌, true, false, ◌||◌, eqb, List, [], ◌∷◌, ◌++◌, length, refl, ap, inl, inr, arith}
 use Rattle.std.proofs.lemmas.Bool.Decides.{nat_tests as tells}
+use Rattle.std.proofs.lemmas.Bool.{cases_Bool}
 use Rattle.std.proofs.lemmas.Map.Steps.{length-le_from_distinct_below}
 use Rattle.std.specs.List.{AllByRecursion, IsDistinct, list_any}
 use Rattle.books.specs.Lanes.{has, distinct, all_below}
@@ -25,6 +26,19 @@ distinct_short n xs b d = length-le_from_distinct_below xs n (is_distinct xs d) 
 -- so a lot below n that is not in it finds room
 pub distinct_room : (n i : ℕ) (xs : List ℕ) → all_below n xs ≡ true → distinct xs ≡ true → i < n → has xs i ≡ false → length xs < n
 distinct_room n i xs b d below new = let short = distinct_short n (i ∷ xs) (grind (arith, tells)) (grind (arith, tells)) in omega arith
+
+-- a list of n of them has every one
+pub distinct_all : (n i : ℕ) (xs : List ℕ) → all_below n xs ≡ true → distinct xs ≡ true → length xs ≡ n → i < n → has xs i ≡ true
+distinct_all n i xs b d full below =
+    elim (cases_Bool (has xs i)) [
+      | inl listed ↦ listed
+      | inr new ↦ absurd (omega (arith, distinct_room n i xs b d below new))
+    ]
+
+-- to be among the lots, in the words of a slice
+pub has_any : (xs : List ℕ) (i : ℕ) → list_any (λ y. eqb y i) xs ≡ has xs i
+has_any [] i = refl
+has_any (x ∷ xs) i = ap (λ b. eqb x i || b) (has_any xs i)
 
 -- one more at the end
 pub has_push : (xs : List ℕ) (i j : ℕ) → has (xs ++ i ∷ []) j ≡ (has xs j || eqb i j)

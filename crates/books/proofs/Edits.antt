@@ -1,53 +1,45 @@
--- What is shown of the front of an array, after a write.
-use Rattle.std.proofs.Common.{◌≡◌, ℕ, ◌+◌, ◌<◌, ◌≤◌, true, List, [], ◌∷◌, ◌++◌, map, length, get_or, take, set, sym, ap, ◌∙◌, inl, inr, arith}
-use lib.Seq.{take-set-lt}
-use Rattle.std.proofs.lemmas.List.{take_more_set, map_push, map-set, get_or-map, get_or-take, length-map, length-take, length-take-le, length-set}
-use Rattle.std.proofs.lemmas.Bool.{cases_Bool}
-use Rattle.sharing.specs.Cards.{terms}
-use Rattle.books.specs.declared.book.Book.{Book}
-use Rattle.books.specs.Lanes.{Entry, entry, lane_at, no_lane, has}
-use Rattle.books.specs.Contents.{contents, lane_of, no_entry, ranking_of}
-use Rattle.books.proofs.Distinct.{distinct_room}
+-- What is shown of a book's cards and lanes after a write.
+use Rattle.std.proofs.Common.{◌≡◌, ℕ, ◌-◌, ◌<◌, List, [], ◌∷◌, ◌++◌, map, length, get_or, set, Ok, Err, Result, sym, refl, ap, ◌∙◌, subst, arith}
+use Rattle.std.proofs.lemmas.List.{get_or-map, map_push, map-set, length-map}
+use Rattle.std.specs.Result.{IsOk, OnOk}
+use Rattle.rows.specs.declared.row.Full.{Full}
+use Rattle.sharing.specs.declared.card.Card.{Card}
+use Rattle.sharing.specs.Cards.{terms, more_terms}
+use Rattle.books.specs.declared.lane.Lane.{Lane}
+use Rattle.books.specs.Lanes.{Entry}
+use Rattle.sharing.specs.Rules.{lanes}
+use Rattle.books.specs.Entries.{Contents, entry, no_entry, no_shed, blank_entry, shown, lane_of, last_shed, last_terms, with_lane}
+use Rattle.books.specs.Laid.{Ordered}
+use Rattle.books.proofs.Standing.{ordered_entry}
 
-module _ {X Y : Type 0} (f : X → Y) (xs : List X) where
-  pub shown_push : (n : ℕ) (x : X) → n < length xs → map f (take (n + 1) (set xs n x)) ≡ map f (take n xs) ++ f x ∷ []
-  shown_push n x h = ap (map f) (take_more_set xs n x h) ∙ map_push f (take n xs) x
+-- what a push ensures where there is room
+pub pushed_on_ok : {P : Type 0} (r : Result (Unit {0}) Full) → IsOk r → OnOk r P → P
+pushed_on_ok (Ok u) ok then = then
+pushed_on_ok (Err e) ok then = absurd cc
 
-  pub shown_set : (n i : ℕ) (x : X) → i < n → map f (take n (set xs i x)) ≡ set (map f (take n xs)) i (f x)
-  shown_set n i x h = ap (map f) (take-set-lt n xs i x h) ∙ map-set f (take n xs) i x
+module _ (cards : List Card) (ls : List Lane) where
+  -- a lane of the book
+  pub lane_known : (l : ℕ) (x : Lane) → l < length ls → x ≡ get_or ls l x → lane_of (shown cards ls) l ≡ entry x
+  lane_known l x h is = get_or-map entry ls l x no_entry h ∙ ap entry (sym is)
 
-  pub shown_length : (n : ℕ) → n ≤ length xs → length (map f (take n xs)) ≡ n
-  shown_length n h = simp (length-map, length-take) (omega arith)
+  -- a lane is written
+  pub lane_written : (l : ℕ) (x : Lane) (e : Entry) → entry x ≡ e → shown cards (set ls l x) ≡ record { sheds = map terms cards; lanes = set (map entry ls) l e }
+  lane_written l x e is = ap {B = Contents} (λ v. record { sheds = map terms cards; lanes = v }) (map-set entry ls l x ∙ ap (set (map entry ls) l) is)
 
-  pub shown_at : (n i : ℕ) (d : X) (e : Y) → i < n → n ≤ length xs → get_or (map f (take n xs)) i e ≡ f (get_or xs i d)
-  shown_at n i d e h l = get_or-map f (take n xs) i d e (simp length-take (omega arith)) ∙ ap f (get_or-take n xs i d h)
+  -- one that stands where it stood leaves the lanes in order
+  pub ordered_written : (l : ℕ) (x : Lane) → l < length ls → (entry x).shed ≡ (lane_of (shown cards ls) l).shed → (entry x).place ≡ (lane_of (shown cards ls) l).place → Ordered (shown cards ls) → Ordered (shown cards (set ls l x))
+  ordered_written l x h shed place o = subst Ordered (sym (lane_written l x (entry x) refl)) (ordered_entry (shown cards ls) l (entry x) (simp length-map h) shed place o)
 
--- the counts of a book
-pub sheds_length : (b : Book) → length (contents b).sheds ≡ b.sheds
-sheds_length b = shown_length terms b.cards b.sheds (omega (arith, b.card_places, b.few_sheds))
-
-pub lanes_length : (b : Book) → length (contents b).lanes ≡ b.lane_count
-lanes_length b = shown_length entry b.lanes b.lane_count (omega (arith, b.lane_places, b.few_lanes))
-
--- a lane of the book
-pub lane_of_known : (b : Book) (l : ℕ) → l < b.lane_count → lane_of (contents b) l ≡ entry (lane_at b.lanes l)
-lane_of_known b l h = shown_at entry b.lanes b.lane_count l no_lane no_entry h (omega (arith, b.lane_places, b.few_lanes))
-
--- how many lots a lane of the book ranks
-pub ranked_length : (b : Book) (l : ℕ) → l < b.lane_count → length (lane_of (contents b) l).ranking ≡ (lane_at b.lanes l).ranked
-ranked_length b l h =
-    let ranks = b.rankings l (omega (arith, b.few_lanes)) in
-    ap (λ e. length e.ranking) (lane_of_known b l h) ∙ length-take-le (lane_at b.lanes l).ranked (lane_at b.lanes l).lots (omega (arith, ranks.0, ranks.1))
-
--- a lane that ranks 256 lots ranks every lot
-pub ranks_everyone : (b : Book) (l lot : ℕ) → l < b.lane_count → (lane_at b.lanes l).ranked ≡ 256 → lot < 256 → has (ranking_of (contents b) l) lot ≡ true
-ranks_everyone b l lot h full below =
-    let lane = lane_at b.lanes l in
-    let ranks = b.rankings l (omega (arith, b.few_lanes)) in
-    let same = ap (λ e. e.ranking) (lane_of_known b l h) in
-    elim (cases_Bool (has (ranking_of (contents b) l) lot)) [
-      | inl listed ↦ listed
-      | inr new ↦
-          let room = distinct_room 256 lot (take lane.ranked lane.lots) ranks.3 ranks.2 below (sym (ap (λ xs. has xs lot) same) ∙ new) in
-          absurd (omega (arith, room, ranked_length b l h, ap length same))
-    ]
+  -- a lane more, on the last card and behind the other lanes
+  pub lane_pushed : (d wider : Card) (x : Lane) (target capacity : ℕ) → 0 < length cards → d ≡ get_or cards (length cards - 1) d → terms wider ≡ more_terms (terms d) target capacity →
+      entry x ≡ blank_entry (length cards - 1) (lanes (terms d)) → shown (set cards (length cards - 1) wider) (ls ++ x ∷ []) ≡ with_lane (shown cards ls) target capacity
+  lane_pushed d wider x target capacity some is more new =
+      let at : last_shed (shown cards ls) ≡ length cards - 1 = ap (λ n. n - 1) (length-map cards terms) in
+      let last : last_terms (shown cards ls) ≡ terms d = ap (λ n. get_or (map terms cards) n no_shed) at ∙ get_or-map terms cards (length cards - 1) d no_shed (omega arith) ∙ ap terms (sym is) in
+      let sheds : map terms (set cards (length cards - 1) wider) ≡ (with_lane (shown cards ls) target capacity).sheds =
+      map-set terms cards (length cards - 1) wider ∙ (λ i. set (map terms cards) (sym at i) ((more ∙ ap (λ t. more_terms t target capacity) (sym last)) i))
+      in
+      let entries : map entry (ls ++ x ∷ []) ≡ (with_lane (shown cards ls) target capacity).lanes =
+      map_push entry ls x ∙ ap (λ e. map entry ls ++ e ∷ []) (new ∙ (λ i. blank_entry (sym at i) (lanes (sym last i))))
+      in
+      λ i. record { sheds = sheds i; lanes = entries i }

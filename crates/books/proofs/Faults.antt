@@ -18,6 +18,7 @@ use Rattle.books.specs.Contents.{Contents, last_terms, last_shed, no_entry, with
 use Rattle.books.specs.Faulty.{is_shed, is_lane, is_rank, ranks_lane, names_lot, targets_in, any_of, count_of, since, nearest_cap, misplaced, too_many, unknown, twice, overtargeted, wrong, faulty, strange_only, HasFault, FirstFault}
 use Rattle.books.specs.Lanes.{Entry, has}
 use Rattle.books.proofs.Distinct.{has_push}
+use Rattle.books.proofs.Standing.{at_lanes}
 use Rattle.books.proofs.Walks.{last_of_shed, last_of_lane}
 use Rattle.books.specs.Opening.{Reading, progress_of, noted, before, judge, taken, walk, unread, opening, answered}
 
@@ -51,22 +52,6 @@ nothing_read = record {
   blank = λ l h e. absurd (omega arith);
   lots = λ l i e. absurd cc;
 }
-
--- a lane of the contents after a write to one
-module _ (c : Contents) (l : ℕ) (e : Entry) where
-  lane_here : l < length c.lanes → lane_of (record { sheds = c.sheds; lanes = set c.lanes l e }) l ≡ e
-  lane_here h = get_or-set_same c.lanes l e no_entry h
-
-  lane_other : (m : ℕ) → (m ≡ l → ⊥) → lane_of (record { sheds = c.sheds; lanes = set c.lanes l e }) m ≡ lane_of c m
-  lane_other m apart = get_or-set_other c.lanes l m e no_entry apart
-
--- what holds of the entry and of every other lane holds of every lane
-at_lanes : (P : ℕ → Entry → Type 0) (c : Contents) (l m : ℕ) (e : Entry) → l < length c.lanes → P l e → ((m ≡ l → ⊥) → P m (lane_of c m)) → P m (lane_of (record { sheds = c.sheds; lanes = set c.lanes l e }) m)
-at_lanes P c l m e h here other =
-    elim (cases_eq m l) [
-      | inl same ↦ subst (λ n. P n (lane_of (record { sheds = c.sheds; lanes = set c.lanes l e }) n)) (sym same) (subst (P l) (sym (lane_here c l e h)) here)
-      | inr apart ↦ subst (P m) (sym (lane_other c l e m apart)) (other apart)
-    ]
 
 -- a SHED word more
 reads_shed : (os : List (Option BookWord)) (r : Reading) (limit : ℕ) → Reads os r → Reads (Some (Shed limit) ∷ os) (record { book = with_shed r.book limit; ranking = r.ranking })
@@ -145,12 +130,12 @@ reads_rank os r l h fresh k =
       targets = omega (arith, k.targets);
       ranking = refl;
       known = λ m is. let here : l ≡ m = cc in omega (arith, same);
-      current = λ m is. let here : l ≡ m = cc in subst (λ n. (lane_of (with_record c l) n).recorded ≡ true) here (ap (λ x. x.recorded) (lane_here c l e h));
+      current = λ m is. let here : l ≡ m = cc in subst (λ n. (lane_of (with_record c l) n).recorded ≡ true) here (ap (λ x. x.recorded) (get_or-set_same c.lanes l e no_entry h));
       recorded = λ m inside. at_lanes (λ n x. x.recorded ≡ (eqb l n || any_of (ranks_lane n) os)) c l m e h
           (sym (ap (λ b. b || any_of (ranks_lane l) os) (eq-eqb l l refl)))
           (λ apart. let t = k.recorded m (omega (arith, same)) in let u = ne_eqb l m (λ z. apart (sym z)) in t ∙ sym (ap (λ b. b || any_of (ranks_lane m) os) u));
       blank = λ m inside. at_lanes (λ n x. x.recorded ≡ false → x.ranking ≡ []) c l m e h (λ z. absurd cc) (λ apart. k.blank m (omega (arith, same)));
-      lots = λ m i is. let here : l ≡ m = cc in subst (λ n. has (lane_of (with_record c l) n).ranking i ≡ false) here (ap (λ x. has x.ranking i) (lane_here c l e h) ∙ ap (λ v. has v i) (k.blank l h fresh));
+      lots = λ m i is. let here : l ≡ m = cc in subst (λ n. has (lane_of (with_record c l) n).ranking i ≡ false) here (ap (λ x. has x.ranking i) (get_or-set_same c.lanes l e no_entry h) ∙ ap (λ v. has v i) (k.blank l h fresh));
     }
 
 -- a NEXT word more
@@ -177,7 +162,7 @@ reads_next os r l lot now k =
           let pushed = has_push (lane_of c l).ranking lot i in
           let listed = k.lots l i now in
           let both : has ((lane_of c l).ranking ++ lot ∷ []) i ≡ (eqb lot i || any_of (names_lot i) (since is_rank os)) = grind (arith, nat_tests) in
-          subst (λ n. has (lane_of (with_lot c l lot) n).ranking i ≡ (eqb lot i || any_of (names_lot i) (since is_rank os))) here (ap (λ x. has x.ranking i) (lane_here c l e h) ∙ both);
+          subst (λ n. has (lane_of (with_lot c l lot) n).ranking i ≡ (eqb lot i || any_of (names_lot i) (since is_rank os))) here (ap (λ x. has x.ranking i) (get_or-set_same c.lanes l e no_entry h) ∙ both);
     }
 
 -- the five tests of a word that is not strange, and the order in which they are made

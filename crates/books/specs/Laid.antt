@@ -3,8 +3,8 @@ use Rattle.std.specs.Prelude.{◌≡◌, ℕ, ◌+◌, ◌<◌, ◌≤◌, true,
 use Rattle.sharing.specs.declared.card.Card.{Card}
 use Rattle.sharing.specs.Cards.{Terms, terms}
 use Rattle.sharing.specs.Rules.{lanes, sum_to}
-use Rattle.books.specs.Lanes.{distinct, all_below}
-use Rattle.books.specs.Contents.{Contents, lane_of, no_shed, ranking_of}
+use Rattle.books.specs.Lanes.{Entry, distinct, all_below}
+use Rattle.books.specs.Entries.{Contents, lane_of, no_shed, ranking_of}
 
 -- the terms of a shed
 abbrev pub shed_of : Contents → ℕ → Terms
@@ -13,6 +13,16 @@ shed_of c g = slice_index_or c.sheds g no_shed
 -- the number of a shed's first lane: the lanes of the sheds before it
 abbrev pub first_lane : Contents → ℕ → ℕ
 first_lane c g = sum_to (λ k. lanes (shed_of c k)) g
+
+-- an entry stands at a lane's number: its shed is in the book, its place is on the shed's card, and the number counts the
+-- lanes of the sheds before it and those before it on the card
+abbrev pub Stands : Contents → Entry → ℕ → Type 0
+Stands c e l = (e.shed < length c.sheds) × (e.place < lanes (shed_of c e.shed)) × (first_lane c e.shed + e.place ≡ l)
+
+-- each lane stands at its number, and no place on a card is without its lane
+pub record Ordered (c : Contents) : Type 0 where
+  pub lanes_stand : (l : ℕ) → l < length c.lanes → Stands c (lane_of c l) l
+  pub all_lanes : first_lane c (length c.sheds) ≡ length c.lanes
 
 -- What every book says is laid out so: at most 8 sheds, each with the terms of a card, and at most 32 lanes. The lanes are
 -- numbered shed by shed, and in a shed by their place on its card; no place on a card is without its lane. A ranking names

@@ -1,4 +1,5 @@
 pub mod Contents
+pub mod Entries
 pub mod Faulty
 pub mod Laid
 pub mod Lanes

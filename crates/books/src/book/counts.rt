@@ -7,12 +7,12 @@ impl Book {
     pub fn shed_count(&self) -> usize
         ensures { result ≡ length (contents self.now).sheds }
     {
-        self.sheds
+        self.cards.len()
     }
 
     pub fn lane_count(&self) -> usize
         ensures { result ≡ length (contents self.now).lanes }
     {
-        self.lane_count
+        self.lanes.len()
     }
 }

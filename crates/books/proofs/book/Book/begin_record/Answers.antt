@@ -1,13 +1,21 @@
-use Rattle.std.proofs.Common.{map, take, set, sym, ap, ◌∙◌, rules}
-use Rattle.books.specs.Lanes.{entry}
-use Rattle.books.specs.Contents.{Contents, contents, recorded_entry}
-use Rattle.books.proofs.Edits.{shown_set, lane_of_known}
+use Rattle.std.proofs.Common.{sym, ap, ◌∙◌, arith, length-set, rules}
+use Rattle.books.specs.Lanes.{Entry}
+use Rattle.books.specs.Entries.{recorded_entry}
+use Rattle.books.proofs.Edits.{lane_known, lane_written, ordered_written}
 use Rattle.books.proofs.book.Book.begin_record.Goals as goal
 
-pub returns : goal.returns
-returns c =
+pub invariant_of-self-clause-ordered : goal.invariant_of-self-clause-ordered
+invariant_of-self-clause-ordered c =
     let b = c.args.self.now in
-    let l = c.args.lane in
-    let n = b.lane_count in
-    let was = lane_of_known b l (search rules) in
-    ap {B = Contents} (λ v. record { sheds = (contents b).sheds; lanes = v }) (shown_set entry b.lanes n l _ (search rules) ∙ ap (λ e. set (map entry (take n b.lanes)) l (recorded_entry e)) (sym was))
+    let known = lane_known b.cards.items b.lanes.items c.args.lane c.in-Some.lane.now (search rules) (search rules) in
+    let same = c.begin_record.ensures ∙ ap recorded_entry (sym known) in
+    ordered_written b.cards.items b.lanes.items c.args.lane c.begin_record.new.self (search rules) (ap (λ (e : Entry). e.shed) same) (ap (λ (e : Entry). e.place) same) b.ordered
+
+pub invariant_of-self-clause-few_lanes : goal.invariant_of-self-clause-few_lanes
+invariant_of-self-clause-few_lanes c = let b = c.args.self.now in omega (arith, length-set b.lanes.items c.args.lane c.begin_record.new.self, b.few_lanes)
+
+pub returns-in-Some : goal.returns-in-Some
+returns-in-Some c =
+    let b = c.args.self.now in
+    let known = lane_known b.cards.items b.lanes.items c.args.lane c.in-Some.lane.now (search rules) (search rules) in
+    lane_written b.cards.items b.lanes.items c.args.lane c.begin_record.new.self _ (c.begin_record.ensures ∙ ap recorded_entry (sym known))
