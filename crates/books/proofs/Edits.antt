@@ -17,29 +17,31 @@ pub pushed_on_ok : {P : Type 0} (r : Result (Unit {0}) Full) → IsOk r → OnOk
 pushed_on_ok (Ok u) ok then = then
 pushed_on_ok (Err e) ok then = absurd cc
 
-module _ (cards : List Card) (ls : List Lane) where
-  -- a lane of the book
-  pub lane_known : (l : ℕ) (x : Lane) → l < length ls → x ≡ get_or ls l x → lane_of (shown cards ls) l ≡ entry x
-  lane_known l x h is = get_or-map entry ls l x no_entry h ∙ ap entry (sym is)
+-- a lane of the book
+pub lane_known : (cards : List Card) (ls : List Lane) (l : ℕ) (x : Lane) → l < length ls → x ≡ get_or ls l x → lane_of (shown cards ls) l ≡ entry x
+lane_known cards ls l x h is = get_or-map entry ls l x no_entry h ∙ ap entry (sym is)
 
-  -- a lane is written
-  pub lane_written : (l : ℕ) (x : Lane) (e : Entry) → entry x ≡ e → shown cards (set ls l x) ≡ record { sheds = map terms cards; lanes = set (map entry ls) l e }
-  lane_written l x e is = ap {B = Contents} (λ v. record { sheds = map terms cards; lanes = v }) (map-set entry ls l x ∙ ap (set (map entry ls) l) is)
+-- its entry is changed
+module _ (cards : List Card) (ls : List Lane) (l : ℕ) (old new : Lane) (change : Entry → Entry) (h : l < length ls) (is : old ≡ get_or ls l old) (told : entry new ≡ change (entry old)) where
+  pub lane_changed : shown cards (set ls l new) ≡ record { sheds = map terms cards; lanes = set (map entry ls) l (change (lane_of (shown cards ls) l)) }
+  lane_changed = ap {B = Contents} (λ v. record { sheds = map terms cards; lanes = v }) (map-set entry ls l new ∙ ap (set (map entry ls) l) (told ∙ ap change (sym (lane_known cards ls l old h is))))
 
-  -- one that stands where it stood leaves the lanes in order
-  pub ordered_written : (l : ℕ) (x : Lane) → l < length ls → (entry x).shed ≡ (lane_of (shown cards ls) l).shed → (entry x).place ≡ (lane_of (shown cards ls) l).place → Ordered (shown cards ls) → Ordered (shown cards (set ls l x))
-  ordered_written l x h shed place o = subst Ordered (sym (lane_written l x (entry x) refl)) (ordered_entry (shown cards ls) l (entry x) (simp length-map h) shed place o)
+  -- and stands where it stood
+  pub ordered_changed : ((e : Entry) → (change e).shed ≡ e.shed) → ((e : Entry) → (change e).place ≡ e.place) → Ordered (shown cards ls) → Ordered (shown cards (set ls l new))
+  ordered_changed shed place o =
+      let e = lane_of (shown cards ls) l in
+      subst Ordered (sym lane_changed) (ordered_entry (shown cards ls) l (change e) (simp length-map h) (shed e) (place e) o)
 
-  -- a lane more, on the last card and behind the other lanes
-  pub lane_pushed : (d wider : Card) (x : Lane) (target capacity : ℕ) → 0 < length cards → d ≡ get_or cards (length cards - 1) d → terms wider ≡ more_terms (terms d) target capacity →
-      entry x ≡ blank_entry (length cards - 1) (lanes (terms d)) → shown (set cards (length cards - 1) wider) (ls ++ x ∷ []) ≡ with_lane (shown cards ls) target capacity
-  lane_pushed d wider x target capacity some is more new =
-      let at : last_shed (shown cards ls) ≡ length cards - 1 = ap (λ n. n - 1) (length-map cards terms) in
-      let last : last_terms (shown cards ls) ≡ terms d = ap (λ n. get_or (map terms cards) n no_shed) at ∙ get_or-map terms cards (length cards - 1) d no_shed (omega arith) ∙ ap terms (sym is) in
-      let sheds : map terms (set cards (length cards - 1) wider) ≡ (with_lane (shown cards ls) target capacity).sheds =
-      map-set terms cards (length cards - 1) wider ∙ (λ i. set (map terms cards) (sym at i) ((more ∙ ap (λ t. more_terms t target capacity) (sym last)) i))
-      in
-      let entries : map entry (ls ++ x ∷ []) ≡ (with_lane (shown cards ls) target capacity).lanes =
-      map_push entry ls x ∙ ap (λ e. map entry ls ++ e ∷ []) (new ∙ (λ i. blank_entry (sym at i) (lanes (sym last i))))
-      in
-      λ i. record { sheds = sheds i; lanes = entries i }
+-- a lane more, on the last card and behind the other lanes
+pub lane_pushed : (cards : List Card) (ls : List Lane) (d wider : Card) (x : Lane) (target capacity : ℕ) → 0 < length cards → d ≡ get_or cards (length cards - 1) d → terms wider ≡ more_terms (terms d) target capacity →
+    entry x ≡ blank_entry (length cards - 1) (lanes (terms d)) → shown (set cards (length cards - 1) wider) (ls ++ x ∷ []) ≡ with_lane (shown cards ls) target capacity
+lane_pushed cards ls d wider x target capacity some is more new =
+    let at : last_shed (shown cards ls) ≡ length cards - 1 = ap (λ n. n - 1) (length-map cards terms) in
+    let last : last_terms (shown cards ls) ≡ terms d = ap (λ n. get_or (map terms cards) n no_shed) at ∙ get_or-map terms cards (length cards - 1) d no_shed (omega arith) ∙ ap terms (sym is) in
+    let sheds : map terms (set cards (length cards - 1) wider) ≡ (with_lane (shown cards ls) target capacity).sheds =
+    map-set terms cards (length cards - 1) wider ∙ (λ i. set (map terms cards) (sym at i) ((more ∙ ap (λ t. more_terms t target capacity) (sym last)) i))
+    in
+    let entries : map entry (ls ++ x ∷ []) ≡ (with_lane (shown cards ls) target capacity).lanes =
+    map_push entry ls x ∙ ap (λ e. map entry ls ++ e ∷ []) (new ∙ (λ i. blank_entry (sym at i) (lanes (sym last i))))
+    in
+    λ i. record { sheds = sheds i; lanes = entries i }

@@ -1,21 +1,17 @@
-use Rattle.std.proofs.Common.{sym, ap, ◌∙◌, arith, length-set, rules}
-use Rattle.books.specs.Lanes.{Entry}
+use Rattle.std.proofs.Common.{refl, arith, length-set, rules}
 use Rattle.books.specs.Entries.{recorded_entry}
-use Rattle.books.proofs.Edits.{lane_known, lane_written, ordered_written}
+use Rattle.books.proofs.Edits.{lane_changed, ordered_changed}
 use Rattle.books.proofs.book.Book.begin_record.Goals as goal
-
-pub invariant_of-self-clause-ordered : goal.invariant_of-self-clause-ordered
-invariant_of-self-clause-ordered c =
-    let b = c.args.self.now in
-    let known = lane_known b.cards.items b.lanes.items c.args.lane c.in-Some.lane.now (search rules) (search rules) in
-    let same = c.begin_record.ensures ∙ ap recorded_entry (sym known) in
-    ordered_written b.cards.items b.lanes.items c.args.lane c.begin_record.new.self (search rules) (ap (λ (e : Entry). e.shed) same) (ap (λ (e : Entry). e.place) same) b.ordered
 
 pub invariant_of-self-clause-few_lanes : goal.invariant_of-self-clause-few_lanes
 invariant_of-self-clause-few_lanes c = let b = c.args.self.now in omega (arith, length-set b.lanes.items c.args.lane c.begin_record.new.self, b.few_lanes)
 
+pub invariant_of-self-clause-ordered : goal.invariant_of-self-clause-ordered
+invariant_of-self-clause-ordered c =
+    let b = c.args.self.now in
+    ordered_changed b.cards.items b.lanes.items c.args.lane c.in-Some.lane.now c.begin_record.new.self recorded_entry (search rules) (search rules) c.begin_record.ensures (λ e. refl) (λ e. refl) b.ordered
+
 pub returns-in-Some : goal.returns-in-Some
 returns-in-Some c =
     let b = c.args.self.now in
-    let known = lane_known b.cards.items b.lanes.items c.args.lane c.in-Some.lane.now (search rules) (search rules) in
-    lane_written b.cards.items b.lanes.items c.args.lane c.begin_record.new.self _ (c.begin_record.ensures ∙ ap recorded_entry (sym known))
+    lane_changed b.cards.items b.lanes.items c.args.lane c.in-Some.lane.now c.begin_record.new.self recorded_entry (search rules) (search rules) c.begin_record.ensures
