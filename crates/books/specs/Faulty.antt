@@ -10,49 +10,31 @@ use Rattle.sheets.specs.Words.{book_word}
 
 -- the kinds of words; a strange word is of none
 abbrev pub is_shed : Option BookWord → Bool
-is_shed None = false
 is_shed (Some (Shed c)) = true
-is_shed (Some (Lane t q)) = false
-is_shed (Some (Rank l)) = false
-is_shed (Some (Next i)) = false
+is_shed _ = false
 
 abbrev pub is_lane : Option BookWord → Bool
-is_lane None = false
-is_lane (Some (Shed c)) = false
 is_lane (Some (Lane t q)) = true
-is_lane (Some (Rank l)) = false
-is_lane (Some (Next i)) = false
+is_lane _ = false
 
 abbrev pub is_rank : Option BookWord → Bool
-is_rank None = false
-is_rank (Some (Shed c)) = false
-is_rank (Some (Lane t q)) = false
 is_rank (Some (Rank l)) = true
-is_rank (Some (Next i)) = false
+is_rank _ = false
 
 -- a RANK word that names lane l
 abbrev pub ranks_lane : ℕ → Option BookWord → Bool
-ranks_lane l None = false
-ranks_lane l (Some (Shed c)) = false
-ranks_lane l (Some (Lane t q)) = false
 ranks_lane l (Some (Rank m)) = m == l
-ranks_lane l (Some (Next i)) = false
+ranks_lane l _ = false
 
 -- a NEXT word that names lot i
 abbrev pub names_lot : ℕ → Option BookWord → Bool
-names_lot i None = false
-names_lot i (Some (Shed c)) = false
-names_lot i (Some (Lane t q)) = false
-names_lot i (Some (Rank l)) = false
 names_lot i (Some (Next j)) = j == i
+names_lot i _ = false
 
 -- the target of a LANE word
 abbrev pub target_in : Option BookWord → ℕ
-target_in None = 0
-target_in (Some (Shed c)) = 0
 target_in (Some (Lane t q)) = t
-target_in (Some (Rank l)) = 0
-target_in (Some (Next i)) = 0
+target_in _ = 0
 
 -- the words before a word are listed the nearest first
 abbrev pub any_of : (Option BookWord → Bool) → List (Option BookWord) → Bool
@@ -75,11 +57,8 @@ since p (o ∷ os) = cond (p o) [] (o ∷ since p os)
 -- the cap of the nearest SHED word
 abbrev pub nearest_cap : List (Option BookWord) → ℕ
 nearest_cap [] = 0
-nearest_cap (None ∷ os) = nearest_cap os
 nearest_cap (Some (Shed c) ∷ os) = c
-nearest_cap (Some (Lane t q) ∷ os) = nearest_cap os
-nearest_cap (Some (Rank l) ∷ os) = nearest_cap os
-nearest_cap (Some (Next i) ∷ os) = nearest_cap os
+nearest_cap (_ ∷ os) = nearest_cap os
 
 -- a SHED or LANE word after a RANK word, a LANE word with no SHED word before it, a NEXT word before any RANK word
 abbrev pub misplaced : List (Option BookWord) → BookWord → Bool
@@ -92,55 +71,38 @@ misplaced os (Next i) = not (any_of is_rank os)
 abbrev pub too_many : List (Option BookWord) → BookWord → Bool
 too_many os (Shed c) = nat_le 8 (count_of is_shed os)
 too_many os (Lane t q) = nat_le 8 (count_of is_lane (since is_shed os)) || nat_le 32 (count_of is_lane os)
-too_many os (Rank l) = false
-too_many os (Next i) = false
+too_many os _ = false
 
 -- a lane that is not on the sheet, a lot above 255
 abbrev pub unknown : List (Option BookWord) → BookWord → Bool
-unknown os (Shed c) = false
-unknown os (Lane t q) = false
 unknown os (Rank l) = nat_le (count_of is_lane os) l
 unknown os (Next i) = nat_le 256 i
+unknown os _ = false
 
 -- a second ranking record for a lane, a lot twice in a ranking
 abbrev pub twice : List (Option BookWord) → BookWord → Bool
-twice os (Shed c) = false
-twice os (Lane t q) = false
 twice os (Rank l) = any_of (ranks_lane l) os
 twice os (Next i) = any_of (names_lot i) (since is_rank os)
+twice os _ = false
 
 -- a target above its capacity, or the targets of the shed so far above its cap
 abbrev pub overtargeted : List (Option BookWord) → BookWord → Bool
-overtargeted os (Shed c) = false
 overtargeted os (Lane t q) = nat_lt q t || nat_lt (nearest_cap os) (targets_in (since is_shed os) + t)
-overtargeted os (Rank l) = false
-overtargeted os (Next i) = false
+overtargeted os _ = false
 
 -- has a word this fault, behind those words?
 abbrev pub wrong : Refusal → List (Option BookWord) → BookWord → Bool
-wrong Ragged os b = false
-wrong Strange os b = false
 wrong Misplaced os b = misplaced os b
 wrong TooMany os b = too_many os b
 wrong Unknown os b = unknown os b
 wrong Twice os b = twice os b
 wrong Overtargeted os b = overtargeted os b
-wrong Idle os b = false
-wrong Short os b = false
-wrong Misfit os b = false
+wrong _ os b = false
 
 -- a strange word has no other fault
 abbrev pub strange_only : Refusal → Bool
-strange_only Ragged = false
 strange_only Strange = true
-strange_only Misplaced = false
-strange_only TooMany = false
-strange_only Unknown = false
-strange_only Twice = false
-strange_only Overtargeted = false
-strange_only Idle = false
-strange_only Short = false
-strange_only Misfit = false
+strange_only _ = false
 
 abbrev pub faulty : Refusal → List (Option BookWord) → Option BookWord → Bool
 faulty x os None = strange_only x
