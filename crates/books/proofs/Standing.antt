@@ -1,9 +1,8 @@
 -- The lanes of a book stay in order, word by word.
-use Rattle.std.proofs.Common.{◌≡◌, ℕ, zero, suc, ◌+◌, ◌<◌, ◌≤◌, ◌≢◌, [], ◌∷◌, length, set, sym, refl, ap, ◌∙◌, subst, inl, inr, arith, length-set, length-take}
+use Rattle.std.proofs.Common.{◌≡◌, ℕ, zero, suc, ◌+◌, ◌<◌, ◌≤◌, ◌≢◌, [], ◌∷◌, length, set, sym, refl, ap, ◌∙◌, subst, inl, inr, arith, length-set}
 use Rattle.std.proofs.lemmas.List.{get_or-set_same, get_or-set_other, get_or_push, get_or_append_left, length_push}
 use Rattle.std.proofs.lemmas.Bool.{cases_eq, cases_lt}
-use Rattle.sharing.specs.declared.card.Card.{Card}
-use Rattle.sharing.specs.Cards.{Terms, terms, more_terms}
+use Rattle.sharing.specs.Cards.{Terms, more_terms}
 use Rattle.sharing.specs.Rules.{lanes, sum_to}
 use Rattle.sharing.specs.Sums.{sum_same}
 use Rattle.books.specs.Lanes.{Entry}
@@ -22,10 +21,6 @@ sum_longer f m (suc n) h =
 -- the last summand
 sum_last : (f : ℕ → ℕ) (g n : ℕ) → n ≡ g + 1 → sum_to f n ≡ f g + sum_to f g
 sum_last f g n e = let next : n ≡ suc g = omega arith in subst (λ k. sum_to f k ≡ f g + sum_to f g) (sym next) refl
-
--- the lanes on a card
-pub card_lanes : (card : Card) → lanes (terms card) ≡ card.lanes
-card_lanes card = simp length-take (omega (arith, card.eight_capacities, card.few_lanes))
 
 -- what holds of the entry that is written and of every other lane holds of every lane
 pub at_lanes : (P : ℕ → Entry → Type 0) (c : Contents) (l m : ℕ) (e : Entry) → l < length c.lanes → P l e → ((m ≡ l → ⊥) → P m (lane_of c m)) → P m (lane_of (record { sheds = c.sheds; lanes = set c.lanes l e }) m)

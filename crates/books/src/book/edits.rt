@@ -41,7 +41,7 @@ impl Book {
     {
         let shed = self.cards.len() - 1;
         let card = self.cards.last_mut().unwrap();
-        let place = card.lanes;
+        let place = card.lanes.len();
         *card = card
             .with_lane(target, capacity)
             .ok_or(Refusal::Overtargeted)?;

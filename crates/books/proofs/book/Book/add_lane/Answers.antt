@@ -2,12 +2,13 @@ use Rattle.std.proofs.Common.{◌≡◌, ◌-◌, ◌<◌, [], ◌∷◌, ◌++�
 use Rattle.std.proofs.lemmas.List.{length-map}
 use Rattle.std.specs.Option.{option_map}
 use Rattle.sharing.specs.Cards.{terms}
+use Rattle.sharing.specs.Within.{lanes_are}
 use Rattle.sharing.proofs.Lanes.{lane_taken}
 use Rattle.books.specs.Entries.{blank_entry, shown, with_lane}
 use Rattle.books.specs.Contents.{contents}
 use Rattle.books.specs.Laid.{Ordered}
 use Rattle.books.proofs.Edits.{pushed_on_ok, lane_pushed}
-use Rattle.books.proofs.Standing.{card_lanes, ordered_lane}
+use Rattle.books.proofs.Standing.{ordered_lane}
 use Rattle.books.proofs.book.Book.add_lane.Goals as goal
 use Rattle.books.proofs.book.Book.add_lane.Goals.{After-push}
 
@@ -24,7 +25,7 @@ wider_book c =
     let taken = lane_taken (terms card) (terms wider) t q (sym c.with_lane.ensures ∙ ap (option_map terms) some) in
     let room : length b.lanes.items < 32 = simp length-map at c.requires.lanes in
     let pushed : c.push.new.self.items ≡ b.lanes.items ++ c.new.result ∷ [] = pushed_on_ok c.push.result (c.push.ensures.room.1 room) c.push.ensures.ok in
-    let place = c.new.ensures ∙ (λ i. blank_entry (ap (λ n. n - 1) c.len-shed.ensures.value i) (sym (card_lanes card) i)) in
+    let place = c.new.ensures ∙ (λ i. blank_entry (ap (λ n. n - 1) c.len-shed.ensures.value i) ((c.len-place.ensures.value ∙ sym (lanes_are card)) i)) in
     ap (shown (set cards (length cards - 1) wider)) pushed ∙ lane_pushed cards b.lanes.items card wider c.new.result t q (search rules) (search rules) taken.1 place
 
 pub invariant_of-self-2-clause-ordered : goal.invariant_of-self-2-clause-ordered
