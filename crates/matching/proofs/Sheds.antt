@@ -1,5 +1,5 @@
 -- What the lanes of a shed choose, from the laws of the rule.
-use Rattle.std.proofs.Common.{◌≡◌, ℕ, ◌+◌, ◌<◌, ◌≤◌, min, Bool, true, false, ltb, List, length, sym, ap, ◌∙◌, subst, inl, inr, arith, length-take}
+use Rattle.std.proofs.Common.{◌≡◌, ℕ, ◌+◌, ◌<◌, ◌≤◌, min, Bool, true, false, ltb, List, length, sym, ap, ◌∙◌, subst, inl, inr, arith}
 use Rattle.std.proofs.lemmas.List.{get_or_past}
 use Rattle.std.proofs.lemmas.List.FromFn.{get_or-map-range_with_len, length-map-range_with_len}
 use Rattle.std.proofs.lemmas.Bool.{cases_lt, lt-ltb}
@@ -7,6 +7,7 @@ use Rattle.sharing.specs.declared.card.Card.{Card}
 use Rattle.sharing.specs.Cards.{Terms, terms}
 use Rattle.sharing.specs.Rules.{at, lanes, places, kept, Small, Meaning, Lawful}
 use Rattle.sharing.specs.Sums.{sum_less}
+use Rattle.sharing.specs.Within.{lanes_are_few}
 use Rattle.books.specs.Contents.{Contents, lane_of, ranking_of}
 use Rattle.books.specs.Laid.{Laid, shed_of, first_lane}
 use Rattle.books.proofs.Distinct.{distinct_short}
@@ -48,10 +49,7 @@ consistent m t r x y sx sy room le l h =
 module _ (c : Contents) (laid : Laid c) where
   module _ (g : ℕ) (here : g < length c.sheds) where
     pub few_on_card : lanes (shed_of c g) ≤ 8
-    few_on_card =
-        let d = laid.carded g here in
-        let few : lanes (terms d.0) ≤ 8 = simp length-take (omega (arith, d.0.few_lanes)) in
-        subst (λ (t : Terms). lanes t ≤ 8) d.1 few
+    few_on_card = let d = laid.carded g here in subst (λ (t : Terms). lanes t ≤ 8) d.1 (lanes_are_few d.0)
 
     module _ (O : Offers) where
       abbrev supplied : ℕ → ℕ
