@@ -1,39 +1,28 @@
-ghost use Rattle.std.specs.Prelude.{◌≡◌, ℕ, ◌+◌, ◌*◌, ◌/◌, ◌<◌, ◌≤◌, List, length, take};
-ghost use Rattle.days.specs.Input.{word_at, words_of, broken, day_of, bytes_behind};
+ghost use Rattle.std.specs.Prelude.{◌≡◌, ℕ, ◌+◌, ◌%◌, ◌&&◌, ◌==◌, List, length, take, nat_le, is_some, IfSome};
+ghost use Rattle.days.specs.Input.{words_of, day_of, bytes_behind};
 
 // The bytes of the longest day: the number of book words, 8,264 book words and 256 slips of 13 words.
 pub const MOST_BYTES: usize = 46_372;
 
-pub const MOST_WORDS: usize = 11_593;
+pub const MOST_WORDS: usize = MOST_BYTES / 4;
 
-// The word at a place of the input, the highest byte first.
-pub(crate) fn word_at(bytes: &[u8], place: usize) -> u32
-    requires { 4 * place + 3 < length bytes.now }
-    ensures { result ≡ word_at bytes.now place }
-{
-    let at = 4 * place;
-    u32::from_be_bytes([bytes[at], bytes[at + 1], bytes[at + 2], bytes[at + 3]])
-}
+// So many bytes behind the first four show that a day is too long.
+const ENOUGH_BEHIND: usize = MOST_BYTES + 1 - 4;
 
-// Are the bytes no whole words, none, or more than a day may have?
-pub(crate) fn is_broken(bytes: &[u8]) -> bool
-    ensures { result ≡ broken bytes.now }
+// Writes the words of the input into the table and hands them out; none where the last word is cut short or the table
+// is too small. In a word the highest byte stands first.
+pub(crate) fn fill<'a>(bytes: &[u8], table: &'a mut [u32; MOST_WORDS]) -> Option<&'a [u32]>
+    ensures words { IfSome result (λ words. words.now ≡ words_of bytes.now) }
+    ensures fits { is_some result ≡ (length bytes.now % 4 == 0 && nat_le (length bytes.now) MOST_BYTES) }
 {
-    let n = bytes.len();
-    n % 4 != 0 || n < 4 || n > MOST_BYTES
-}
-
-// Writes the words of the input and answers how many there are.
-pub(crate) fn fill(bytes: &[u8], words: &mut [u32; 11_593]) -> usize
-    requires { length bytes.now ≤ 46372 }
-    ensures count { result ≡ length bytes.now / 4 }
-    ensures words { take result words.new ≡ words_of bytes.now }
-{
-    let n = bytes.len() / 4;
-    for i in 0..n {
-        words[i] = word_at(bytes, i);
+    let (fours, []) = bytes.as_chunks::<4>() else {
+        return None;
+    };
+    let words = table.get_mut(..fours.len())?;
+    for (place, four) in fours.iter().enumerate() {
+        words[place] = u32::from_be_bytes(*four);
     }
-    n
+    Some(words)
 }
 
 // How many bytes behind the first four are worth reading: none if the first word is missing or says more than a day may
@@ -42,12 +31,8 @@ pub fn bytes_behind(head: &[u8]) -> usize
     ensures count { result ≡ bytes_behind head.now }
     ensures enough { (input : List ℕ) → take 4 input ≡ head.now → day_of (take (4 + result) input) ≡ day_of input }
 {
-    if head.len() < 4 {
-        return 0;
+    match head.first_chunk() {
+        Some(first) if (u32::from_be_bytes(*first) as usize) < MOST_WORDS => ENOUGH_BEHIND,
+        _ => 0,
     }
-    let book_words = word_at(head, 0) as usize;
-    if book_words >= MOST_WORDS {
-        return 0;
-    }
-    MOST_BYTES + 1 - 4
 }
