@@ -1,5 +1,5 @@
 -- A run of words and its slips, one at a time.
-use Rattle.std.proofs.Common.{◌≡◌, ℕ, suc, ◌≤◌, Bool, true, false, eqb, List, [], ◌∷◌, length, take, drop, Some, None, sym, refl, ap, ◌∙◌, subst, arith, length-take}
+use Rattle.std.proofs.Common.{◌≡◌, ℕ, suc, ◌≤◌, Bool, true, false, eqb, List, [], ◌∷◌, length, take, drop, Some, sym, refl, ap, ◌∙◌, subst, arith, length-take}
 use Rattle.sheets.specs.Records.{Page, slip_length, next_slip}
 use Rattle.sheets.specs.Words.{kind}
 use Rattle.intake.specs.Slips.{in_front, cut}
@@ -32,7 +32,7 @@ pub record Next (at : ℕ) (ws : List ℕ) (p : Page) : Type 0 where
   pub slips : cut ws ≡ p.words ∷ cut (drop (length p.words) ws)
 
 pub next_slip_is : (at : ℕ) (ws : List ℕ) (p : Page) → next_slip at ws ≡ Some p → Next at ws p
-next_slip_is at [] p e = absurd (let z : ◌≡◌ {A = ℕ} 0 1 = cc in omega arith)
+next_slip_is at [] p e = cc
 next_slip_is at (w ∷ ws) p e =
     let k = slip_length ws in
     let same : record { words = w ∷ take k ws; place = at } ≡ p = cc in
@@ -42,7 +42,3 @@ next_slip_is at (w ∷ ws) p e =
       some = omega arith;
       slips = cut_first w ws ∙ ap (λ (n : ℕ). (w ∷ take k ws) ∷ cut (drop n ws)) (sym long);
     })
-
-pub no_slip : (at : ℕ) (ws : List ℕ) → next_slip at ws ≡ None → cut ws ≡ []
-no_slip at [] e = refl
-no_slip at (w ∷ ws) e = absurd (let z : ◌≡◌ {A = ℕ} 0 1 = cc in omega arith)

@@ -98,7 +98,7 @@ pub refused_within : (s : Board) (ws : List ℕ) (f : Fault) → Err f ≡ lot_o
 refused_within s ws f e = go (slip_of s ws) (slip_within (length s.book.lanes) s.lists ws) e
   where
     go : (r : Result (ℕ × List ℕ) Fault) → Within (length ws) r → Err f ≡ lot_of r → (r ≡ Err f) × (f.place ≤ length ws)
-    go (Ok p) h e = absurd (let z : ◌≡◌ {A = ℕ} 0 1 = cc in omega arith)
+    go (Ok p) h e = cc
     go (Err g) h e = let same : g ≡ f = cc in (ap Err same, subst (λ (x : Fault). x.place ≤ length ws) same h)
 
 accepted : (s : Board) (ws : List ℕ) (lot : ℕ) → Ok lot ≡ lot_of (slip_of s ws) → (p : ℕ × List ℕ) × (slip_of s ws ≡ Ok p)
@@ -106,7 +106,7 @@ accepted s ws lot e = go (slip_of s ws) e
   where
     go : (r : Result (ℕ × List ℕ) Fault) → Ok lot ≡ lot_of r → (p : ℕ × List ℕ) × (r ≡ Ok p)
     go (Ok p) e = (p, refl)
-    go (Err g) e = absurd (let z : ◌≡◌ {A = ℕ} 0 1 = cc in omega arith)
+    go (Err g) e = cc
 
 module _ (first at : ℕ) (s : Board) (slips : List ℕ) (p : Page) (next : Next at (drop at slips) p) where
   abbrev behind : List (List ℕ)
@@ -141,13 +141,13 @@ all_entered m place s (slip ∷ slips) t e = go (λ q. all_entered m (place + le
   where
     go : ((q : Result (ℕ × List ℕ) Fault) → enter_all (place + length slip) (entered s q) slips ≡ Ok t → t ≡ calls m (entered s q) (map enters slips)) → (r : Result (ℕ × List ℕ) Fault) → slip_of s slip ≡ r →
         ◌≡◌ {A = Result Board Fault} (elim r [ Err f ↦ Err (in_day_at place f) | Ok p ↦ enter_all (place + length slip) (entered s (Ok p)) slips ]) (Ok t) → t ≡ calls m (enter s slip) (map enters slips)
-    go rest (Err f) is e = absurd (let z : ◌≡◌ {A = ℕ} 0 1 = cc in omega arith)
+    go rest (Err f) is e = cc
     go rest (Ok p) is e = rest (Ok p) e ∙ ap (λ (q : Result (ℕ × List ℕ) Fault). calls m (entered s q) (map enters slips)) (sym is)
 
 -- what opening says where it accepts the sheet
 pub opened : (t : Result Contents Fault) → Ok tt ≡ book_in t → t ≡ Ok (left t)
 opened (Ok c) e = refl
-opened (Err f) e = absurd (let z : ◌≡◌ {A = ℕ} 0 1 = cc in omega arith)
+opened (Err f) e = cc
 
 -- every list of calls leads to a round that stands, and so do those that enter the slips of a day
 pub day_reached : (m : Meaning) (bs : List ℕ) (d : Day) (place : ℕ) → day_of bs ≡ Ok d → EveryRun (left (opening d.book)) m → (t : Result Board Fault) → t ≡ enter_all place (begun (left (opening d.book))) (cut d.slips) → EntersSlips m bs t

@@ -30,6 +30,11 @@ cut (w ∷ ws) = elim (begins ws) [ true ↦ (w ∷ []) ∷ cut ws | false ↦ i
 abbrev pub in_day_at : ℕ → Fault → Fault
 in_day_at place f = fault f.refusal (place + f.place)
 
+-- an answer, its fault at its place in the whole input
+abbrev pub answer_at : {A : Type 0} → ℕ → Result A Fault → Result A Fault
+answer_at place (Ok a) = Ok a
+answer_at place (Err f) = Err (in_day_at place f)
+
 -- slips entered in order, the first of them at a place of the input; the first refusal is told at its place in the input
 abbrev pub enter_all : ℕ → Board → List (List ℕ) → Result Board Fault
 enter_all place s [] = Ok s

@@ -1,9 +1,11 @@
-ghost use Rattle.std.specs.Prelude.{◌≡◌, ◌+◌, ◌^◌, ◌<◌, length};
+ghost use Rattle.std.specs.Prelude.{◌≡◌, ◌+◌, ◌^◌, ◌<◌, length, is_some, IfErr};
 ghost use Rattle.boards.specs.Calls.{entered_lots};
+ghost use Rattle.boards.specs.Slips.{list_at};
 ghost use Rattle.rounds.specs.Tables.{board};
-ghost use Rattle.intake.specs.Slips.{cut, in_day_at, enter_all, day_board, board_in, HasRule, EntersSlips, LotForEachSlip};
+ghost use Rattle.intake.specs.Slips.{cut, answer_at, enter_all, day_board, board_in, HasRule, EntersSlips, LotForEachSlip};
 
 use books::book::Book;
+use days::day::DayWords;
 use days::input::MOST_WORDS;
 use days::open::{open_book, read_day};
 use rounds::round::Round;
@@ -11,30 +13,24 @@ use sharing::rule::SharingRule;
 use sheets::fault::Fault;
 use sheets::reader::Reader;
 
-// A fault of words that stand in the input from a place on, at its place in the input.
-fn in_day_at(fault: Fault, place: usize) -> Fault
-    requires { place + fault.place < 2 ^ 64 }
-    ensures { result ≡ in_day_at place fault }
+// What words answer that stand in the input from a place on: a fault is told at its place in the input.
+fn in_day_at(answer: Result<u8, Fault>, place: usize) -> Result<u8, Fault>
+    requires { IfErr answer (λ fault. place + fault.place < 2 ^ 64) }
+    ensures { result ≡ answer_at place answer }
 {
-    Fault::new(fault.refusal(), place + fault.place())
+    answer.map_err(|fault| Fault::new(fault.refusal(), place + fault.place()))
 }
 
-// Enters the slips of a run of words, which stands in the input from a place on, until one is refused.
-fn enter_slips<R: SharingRule + Drop>(
-    round: Round<R>,
-    slips: &[u32],
-    place: usize,
-) -> Result<Round<R>, Fault>
-    requires { place + length slips.now < 2 ^ 64 }
-    ensures board { board_in result ≡ enter_all place (board round.table) (cut slips.now) }
+// Enters the slips of a day, one after the other, into a round, until one is refused. A refusal is told at its place in
+// the input, where the slips stand behind the number of book words and the book.
+fn enter_slips<R: SharingRule + Drop>(mut round: Round<R>, day: DayWords) -> Result<Round<R>, Fault>
+    ensures board { board_in result ≡ enter_all (1 + length day.entry.book.now) (board round.table) (cut day.entry.slips.now) }
     ensures rule { HasRule round.rule result }
 {
-    let mut round = round;
-    let mut reader = Reader::new(slips);
+    let first = 1 + day.book.len();
+    let mut reader = Reader::new(day.slips);
     while let Some(slip) = reader.next_slip() {
-        if let Err(fault) = round.enter(slip.words) {
-            return Err(in_day_at(fault, place + slip.place));
-        }
+        in_day_at(round.enter(slip.words), first + slip.place)?;
     }
     Ok(round)
 }
@@ -51,18 +47,19 @@ pub fn enter_day<R: SharingRule + Drop>(bytes: &[u8], rule: R) -> Result<Round<R
     let day = read_day(bytes, &mut words)?;
     let mut book = Book::new();
     open_book(day.book, &mut book)?;
-    enter_slips(Round::begin(&book, rule), day.slips, 1 + day.book.len())
+    enter_slips(Round::begin(&book, rule), day)
+}
+
+// Has a slip entered the lot?
+fn is_entered<R: SharingRule>(round: &Round<R>, lot: usize) -> bool
+    ensures { result ≡ is_some (list_at (board round.now.table).lists lot) }
+{
+    round.list(lot).is_some()
 }
 
 // How many slips were entered into a round: each has entered a lot of its own.
 pub fn slip_count<R: SharingRule>(round: &Round<R>) -> usize
     ensures { result ≡ entered_lots (board round.now.table).lists }
 {
-    let mut count = 0;
-    for lot in 0..256 {
-        if round.list(lot).is_some() {
-            count += 1;
-        }
-    }
-    count
+    (0..256).filter(|lot| is_entered(round, *lot)).count()
 }

@@ -1,10 +1,12 @@
-use Rattle.std.proofs.Common.{◌≡◌, ℕ, ◌+◌, ◌≤◌, List, length, drop, Some, None, Err, sym, refl, ap, ◌∙◌, subst, arith}
+use Rattle.std.proofs.Common.{◌≡◌, ℕ, ◌+◌, ◌^◌, ◌<◌, ◌≤◌, List, length, drop, Some, Ok, Err, Result, IfErr, sym, refl, ap, ◌∙◌, subst, arith}
+use Rattle.std.proofs.lemmas.Result.{err_from_is_err_and}
 use Rattle.sheets.specs.declared.reader.Part.{Part}
+use Rattle.sheets.specs.declared.fault.Fault.{Fault}
 use Rattle.sheets.specs.Records.{page, next_slip}
-use Rattle.boards.specs.Boards.{Board}
+use Rattle.boards.specs.Boards.{Board, slip_of, lot_of}
 use Rattle.rounds.specs.Tables.{board}
-use Rattle.intake.specs.Slips.{cut, in_day_at, enter_all}
-use Rattle.intake.proofs.Cuts.{Next, next_slip_is, no_slip}
+use Rattle.intake.specs.Slips.{cut, in_day_at, answer_at, enter_all}
+use Rattle.intake.proofs.Cuts.{Next, next_slip_is}
 use Rattle.intake.proofs.Entries.{refused_within, slip_refused, slip_entered}
 use Rattle.intake.proofs.enter.enter_slips.Goals as goal
 
@@ -21,90 +23,91 @@ handed words last slips at end part w v h e l = record {
 
 pub loop-slip-init : goal.loop-slip-init
 loop-slip-init g c =
-    let slips = c.args.slips.now in
+    let slips = c.args.day.slips.now in
+    let first = 1 + length c.args.day.book.now in
     let s = board c.args.round.table in
-    let first : c.args.place + 0 ≡ c.args.place = omega arith in (
-      c.new-reader.ensures.words,
-      refl,
-      ap (λ (k : ℕ). enter_all (c.args.place + k) s (cut (drop k slips))) c.new-reader.ensures.at ∙ ap (λ (k : ℕ). enter_all k s (cut slips)) first,
-    )
+    let none : first + 0 ≡ first = omega arith in
+    record {
+      words = c.new-reader.ensures.words;
+      rule = refl;
+      room = omega arith;
+      rest = ap (λ (k : ℕ). enter_all (first + k) s (cut (drop k slips))) c.new-reader.ensures.at ∙ ap (λ (k : ℕ). enter_all k s (cut slips)) none;
+    }
 
-pub overflow_add-place : goal.overflow_add-place
-overflow_add-place g c =
+-- a slip's refusal is told at a place of the input
+refusal_fits : (s : Board) (ws : List ℕ) (answer : Result ℕ Fault) (first slips at place : ℕ) → answer ≡ lot_of (slip_of s ws) → first + slips < 2 ^ 64 → place ≡ at → at + length ws ≤ slips → IfErr answer (λ f. first + place + f.place < 2 ^ 64)
+refusal_fits s ws (Ok lot) first slips at place e room is within = tt
+refusal_fits s ws (Err f) first slips at place e room is within = let short = (refused_within s ws f e).1 in omega arith
+
+pub overflow_add-first-in-Some : goal.overflow_add-first-in-Some
+overflow_add-first-in-Some g c =
     let r = c.loop-slip.reader in
-    let slips = c.args.slips.now in
+    let slips = c.args.day.slips.now in
+    let slip = c.in-Some.slip in
     let got = c.in-Some.ensures in
     let end = c.next_slip.new.self in
-    let hand = handed r.words.now end.words.now slips r.at end.at c.in-Some.slip c.loop-slip.invariant.0 got.words got.part got.at end.within in
+    let hand = handed r.words.now end.words.now slips r.at end.at slip c.loop-slip.invariant.words got.words got.part got.at end.within in
     let place = hand.next.place in
-    omega (arith, c.requires, place, hand.within)
+    let within = hand.within in
+    omega (arith, c.loop-slip.invariant.room)
 
 pub in_day_at-requires : goal.in_day_at-requires
 in_day_at-requires g c =
     let r = c.loop-slip.reader in
-    let slips = c.args.slips.now in
+    let slips = c.args.day.slips.now in
+    let slip = c.in-Some.slip in
     let got = c.in-Some.ensures in
     let end = c.next_slip.new.self in
-    let hand = handed r.words.now end.words.now slips r.at end.at c.in-Some.slip c.loop-slip.invariant.0 got.words got.part got.at end.within in
-    let place = hand.next.place in
-    let refused = (refused_within (board c.loop-slip.round.table) c.in-Some.slip.words.now c.in-Err.fault c.in-Err.ensures.answer).1 in
-    omega (arith, c.requires, place, hand.within, refused)
+    let hand = handed r.words.now end.words.now slips r.at end.at slip c.loop-slip.invariant.words got.words got.part got.at end.within in
+    refusal_fits (board c.loop-slip.round.table) slip.words.now c.enter.result (1 + length c.args.day.book.now) (length slips) r.at slip.place c.enter.ensures.answer c.loop-slip.invariant.room hand.next.place hand.within
 
-pub returns-in-Err : goal.returns-in-Err
-returns-in-Err g c =
-    let r = c.loop-slip.reader in
-    let slips = c.args.slips.now in
-    let got = c.in-Some.ensures in
-    let end = c.next_slip.new.self in
-    let hand = handed r.words.now end.words.now slips r.at end.at c.in-Some.slip c.loop-slip.invariant.0 got.words got.part got.at end.within in
-    let s = board c.loop-slip.round.table in
-    let f = c.in-Err.fault in
-    let refused = (refused_within s c.in-Some.slip.words.now f c.in-Err.ensures.answer).0 in
-    record {
-      board =
-          ap Err (c.in_day_at.ensures ∙ ap (λ (k : ℕ). in_day_at (c.args.place + k) f) hand.next.place)
-          ∙ sym (slip_refused c.args.place r.at s slips (page c.in-Some.slip) hand.next f refused)
-          ∙ c.loop-slip.invariant.2;
-      rule = tt;
-    }
+-- what a call answered, by its answer in the whole input
+kept_answer : (place : ℕ) (r : Result ℕ Fault) (x : ℕ) → Ok x ≡ answer_at place r → Ok x ≡ r
+kept_answer place (Ok y) x h = h
+kept_answer place (Err e) x h = cc
 
-pub loop-slip-smaller : goal.loop-slip-smaller
-loop-slip-smaller g c =
-    let r = c.loop-slip.reader in
-    let slips = c.args.slips.now in
-    let got = c.in-Some.ensures in
-    let end = c.next_slip.new.self in
-    let hand = handed r.words.now end.words.now slips r.at end.at c.in-Some.slip c.loop-slip.invariant.0 got.words got.part got.at end.within in
-    let some = hand.next.some in
-    omega (arith, some, got.at, hand.within)
+told_fault : (place : ℕ) (r : Result ℕ Fault) (f : Fault) → Err f ≡ answer_at place r → (e : Fault) × (r ≡ Err e) × (f ≡ in_day_at place e)
+told_fault place (Ok y) f h = cc
+told_fault place (Err e) f h = (e, refl, cc)
 
 pub loop-slip-preserved : goal.loop-slip-preserved
 loop-slip-preserved g c =
     let r = c.loop-slip.reader in
-    let slips = c.args.slips.now in
+    let slips = c.args.day.slips.now in
+    let first = 1 + length c.args.day.book.now in
+    let slip = c.in-Some.slip in
     let got = c.in-Some.ensures in
     let end = c.next_slip.new.self in
-    let hand = handed r.words.now end.words.now slips r.at end.at c.in-Some.slip c.loop-slip.invariant.0 got.words got.part got.at end.within in
-    let place = c.args.place in
+    let hand = handed r.words.now end.words.now slips r.at end.at slip c.loop-slip.invariant.words got.words got.part got.at end.within in
     let s = board c.loop-slip.round.table in
     let t = board c.enter.new.self.table in
-    let slip = c.in-Some.slip in
-    let after = c.in_default-enter.ensures in (
-      got.words ∙ c.loop-slip.invariant.0,
-      after.rule ∙ c.loop-slip.invariant.1,
-      ap (λ (n : ℕ). enter_all (place + n) t (cut (drop n slips))) got.at
-          ∙ ap (λ (u : Board). enter_all (place + (r.at + length slip.words.now)) u (cut (drop (r.at + length slip.words.now) slips))) after.board
-          ∙ sym (slip_entered place r.at s slips (page slip) hand.next c.in_default-enter.field-0 after.answer)
-          ∙ c.loop-slip.invariant.2,
-    )
-
-pub returns : goal.returns
-returns g c =
-    let r = c.loop-slip.reader in
-    let s = board c.loop-slip.round.table in
-    let slips = c.args.slips.now in
-    let none : next_slip r.at (drop r.at slips) ≡ None = sym (c.in_default.ensures.part ∙ ap (λ (v : List ℕ). next_slip r.at (drop r.at v)) c.loop-slip.invariant.0) in
+    let entered = slip_entered first r.at s slips (page slip) hand.next c.in_ok-in_day_at.field-0 (kept_answer (first + slip.place) c.enter.result c.in_ok-in_day_at.field-0 c.in_ok-in_day_at.ensures ∙ c.enter.ensures.answer) in
     record {
-      board = sym (ap (enter_all (c.args.place + r.at) s) (no_slip r.at (drop r.at slips) none)) ∙ c.loop-slip.invariant.2;
-      rule = c.loop-slip.invariant.1;
+      words = got.words ∙ c.loop-slip.invariant.words;
+      rule = c.enter.ensures.rule ∙ c.loop-slip.invariant.rule;
+      room = c.loop-slip.invariant.room;
+      rest =
+          ap (λ (n : ℕ). enter_all (first + n) t (cut (drop n slips))) got.at
+          ∙ ap (λ (u : Board). enter_all (first + (r.at + length slip.words.now)) u (cut (drop (r.at + length slip.words.now) slips))) c.enter.ensures.board
+          ∙ sym entered
+          ∙ c.loop-slip.invariant.rest;
     }
+
+pub returns-in_err-in_day_at-clause-board : goal.returns-in_err-in_day_at-clause-board
+returns-in_err-in_day_at-clause-board g c =
+    let r = c.loop-slip.reader in
+    let slips = c.args.day.slips.now in
+    let first = 1 + length c.args.day.book.now in
+    let slip = c.in-Some.slip in
+    let got = c.in-Some.ensures in
+    let end = c.next_slip.new.self in
+    let hand = handed r.words.now end.words.now slips r.at end.at slip c.loop-slip.invariant.words got.words got.part got.at end.within in
+    let s = board c.loop-slip.round.table in
+    let found = told_fault (first + slip.place) c.enter.result c.in_err-in_day_at.field-0.0 c.in_err-in_day_at.ensures in
+    let refused = (refused_within s slip.words.now found.0 (sym found.1 ∙ c.enter.ensures.answer)).0 in
+    let out = err_from_is_err_and c.from_residual.result c.from_residual.ensures.1 in
+    rw (out.1, out.2) (
+    ap Err (found.2 ∙ ap (λ (k : ℕ). in_day_at (first + k) found.0) hand.next.place)
+    ∙ sym (slip_refused first r.at s slips (page slip) hand.next found.0 refused)
+    ∙ c.loop-slip.invariant.rest
+    )

@@ -1,12 +1,15 @@
-use Rattle.std.proofs.Common.{◌≡◌, ◌+◌, ◌-◌, length, drop}
+use Rattle.std.proofs.Common.{◌≡◌, ◌+◌, ◌-◌, ◌<◌, ◌^◌, length, drop}
 use Rattle.rounds.specs.Tables.{board}
 use Rattle.intake.specs.Slips.{cut, enter_all}
 use Rattle.intake.proofs.enter.enter_slips.Given as goal
 
 abbrev pub invariant-loop-slip : goal.invariant-loop-slip
-invariant-loop-slip g l =
-    (l.reader.words.now ≡ l.slips) × (l.round.rule ≡ l.initial.round.rule) ×
-    (enter_all (l.place + l.reader.at) (board l.round.table) (cut (drop l.reader.at l.slips)) ≡ enter_all l.place (board l.initial.round.table) (cut l.slips))
+invariant-loop-slip g l = record {
+  words : l.reader.words.now ≡ l.day.slips.now;
+  rule : l.round.rule ≡ l.initial.round.rule;
+  room : l.first + length l.day.slips.now < 2 ^ 64;
+  rest : enter_all (l.first + l.reader.at) (board l.round.table) (cut (drop l.reader.at l.day.slips.now)) ≡ enter_all l.first (board l.initial.round.table) (cut l.day.slips.now);
+}
 
 abbrev pub decreases-loop-slip : goal.decreases-loop-slip
-decreases-loop-slip g l = length l.slips - l.reader.at
+decreases-loop-slip g l = length l.day.slips.now - l.reader.at
