@@ -1,1 +1,2 @@
+pub mod FirstFound
 pub mod FormedTables

@@ -1,1 +1,3 @@
+pub mod Claims
+pub mod Lots
 pub mod Tables

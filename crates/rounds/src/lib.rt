@@ -2,6 +2,7 @@
 #![tactic(auto)]
 
 mod lines;
+mod lists;
 mod lots;
 pub mod round;
 mod table;

@@ -23,7 +23,7 @@ fn seat(book: &Book, shed: usize, line: Line) -> Option<usize>
 impl Lines {
     // How many lots each lane of a shed holds, by its place on the card.
     pub(crate) fn filling(&self, book: &Book, shed: usize) -> [u16; 8]
-        ensures { result ≡ filling (contents book.now) self.now.lines shed }
+        ensures { result ≡ filling (contents book.now) self.now shed }
     {
         let mut counts = [0u16; 8];
         for line in &self.lines {

@@ -14,20 +14,20 @@ impl<R: SharingRule> Round<R> {
     pub fn line(&self, lot: usize) -> Line
         ensures { result ≡ line_of (board self.now.table) lot }
     {
-        self.table.line(lot)
+        self.table.lots().lines.of(lot)
     }
 
     // The list of a lot; none if no slip has come for it.
     pub fn list(&self, lot: usize) -> Option<Wishes>
         ensures { option_map list_of result ≡ list_at (board self.now.table).lists lot }
     {
-        self.table.list(lot)
+        self.table.lots().lists.of(lot)
     }
 
     // How many applications were made.
     pub fn count(&self) -> u32
         ensures { result ≡ (board self.now.table).count }
     {
-        self.table.count()
+        self.table.lots().count
     }
 }

@@ -3,7 +3,7 @@ ghost use Rattle.boards.specs.Boards.{application, outcome_of, apply};
 ghost use Rattle.rounds.specs.Tables.{board};
 
 use crate::table::Table;
-use crate::table::leaver::Application;
+use crate::table::asked::Application;
 use boards::outcome::Outcome;
 use sharing::rule::SharingRule;
 use sheets::fault::{Fault, Refusal};
@@ -14,9 +14,10 @@ impl Table {
         ensures answer { result ≡ outcome_of (application (R.SharingRule.meaning rule.now) (board self.old) lot) }
         ensures board { board self.new ≡ apply (R.SharingRule.meaning rule.now) (board self.old) lot }
     {
-        let Some(lane) = self.lots.next_wish(lot) else {
-            return Err(Fault::new(Refusal::Idle, 0));
-        };
+        let lane = self
+            .lots
+            .next_wish(lot)
+            .ok_or(Fault::new(Refusal::Idle, 0))?;
         let lot = lot as u8;
         let leaver = self.leaver(rule, Application { lot, lane });
         Ok(self.lots.apply(lot, leaver))

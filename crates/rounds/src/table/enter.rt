@@ -14,14 +14,12 @@ impl Table {
         ensures board { board self.new ≡ enter (board self.old) slip.now }
     {
         let (lot, rest) = take_apart(slip)?;
-        if lot > 255 {
-            return Err(Fault::new(Refusal::Unknown, 0));
-        }
-        if self.lots.is_entered(lot as usize) {
+        let lot = u8::try_from(lot).map_err(|_| Fault::new(Refusal::Unknown, 0))?;
+        if self.lots.lists.of(lot as usize).is_some() {
             return Err(Fault::new(Refusal::Twice, 0));
         }
         let list = Wishes::read(rest, &self.book)?;
-        self.lots.enter(lot as u8, list);
-        Ok(lot as u8)
+        self.lots.enter(lot, list);
+        Ok(lot)
     }
 }

@@ -1,90 +1,55 @@
-ghost use Rattle.std.specs.Prelude.{◌≡◌, ◌+◌, ◌<◌, ◌≤◌, true, length, Some};
-ghost use Rattle.sharing.specs.Cards.{terms};
-ghost use Rattle.sharing.specs.Rules.{at};
-ghost use Rattle.books.specs.Contents.{contents, lane_of, ranking_of};
-ghost use Rattle.books.specs.Laid.{shed_of};
-ghost use Rattle.matching.specs.Offers.{asking};
-ghost use Rattle.rounds.specs.declared.table.leaver.Application.{Application};
-ghost use Rattle.boards.specs.Boards.{holding, line_of, wishes};
-ghost use Rattle.boards.specs.Searches.{next_wish, supplied, beyond, beyond_at, first_of, goes};
+ghost use Rattle.std.specs.Prelude.{◌≡◌, ◌≤◌, ◌<◌, length, Some};
+ghost use Rattle.books.specs.Contents.{contents, ranking_of};
+ghost use Rattle.boards.specs.Boards.{line_of, wishes};
+ghost use Rattle.boards.specs.Searches.{next_wish, beyond, beyond_at, first_of, goes};
 ghost use Rattle.rounds.specs.Tables.{board};
+ghost use Rattle.rounds.specs.Claims.{claiming};
 
 use crate::table::Table;
-use sharing::card::Card;
+use crate::table::asked::{Application, AskedShed};
 use sharing::rule::SharingRule;
-
-// A lot, and the lane that it asks.
-#[derive(Clone, Copy)]
-pub(super) struct Application {
-    pub(super) lot: u8,
-    pub(super) lane: u8,
-}
 
 impl Table {
     // Does the lane hold the lot, or does the lot ask there?
+    #[tactic(auto, unfolding(crate::specs::Claims::claiming))]
     fn claims(&self, asked: Application, lane: usize, lot: u8) -> bool
-        ensures { result ≡ asking (holding (board self.now)) asked.lane asked.lot lane lot }
+        ensures { result ≡ claiming self.now asked lane lot }
     {
         lane == asked.lane as usize && lot == asked.lot
-            || self.lots.line(lot as usize).is_held_at(lane)
+            || self.lots.lines.of(lot as usize).is_held_at(lane)
     }
 
     // Along a lane's ranking, the first lot that claims the lane behind those that are kept.
     fn beyond(&self, asked: Application, lane: usize, keep: u16) -> Option<u8>
-        ensures { result ≡ beyond keep (asking (holding (board self.now)) asked.lane asked.lot lane) (ranking_of (contents self.now.book) lane) }
+        ensures { result ≡ beyond keep (claiming self.now asked lane) (ranking_of (contents self.now.book) lane) }
     {
-        let mut left = keep;
-        for place in 0..self.book.ranked(lane).unwrap_or(0) {
-            let lot = self.book.lot(lane, place)?;
-            if self.claims(asked, lane, lot) {
-                if left == 0 {
-                    return Some(lot);
-                }
-                left -= 1;
-            }
-        }
-        None
+        self.book
+            .ranking(lane)
+            .iter()
+            .copied()
+            .filter(|lot| self.claims(asked, lane, *lot))
+            .nth(keep as usize)
     }
 
     // The same at a place of the card, where the lane keeps fewer than it is supplied with.
-    fn beyond_at(
-        &self,
-        asked: Application,
-        first: usize,
-        supply: &[u16; 8],
-        keep: &[u16; 8],
-        place: usize,
-    ) -> Option<u8>
-        requires place { place < 8 }
-        requires first { first ≤ 32 }
-        ensures { result ≡ beyond_at (contents self.now.book) (asking (holding (board self.now)) asked.lane asked.lot) first supply.now keep.now place }
+    fn beyond_at(&self, shed: &AskedShed, place: usize) -> Option<u8>
+        requires { place < 8 }
+        ensures { result ≡ beyond_at (contents self.now.book) (claiming self.now shed.now.asked) shed.now.first shed.now.supply shed.now.keep place }
     {
-        if keep[place] < supply[place] {
-            self.beyond(asked, first + place, keep[place])
+        let keep = shed.keep[place];
+        let drops = keep < shed.supply[place];
+        if drops {
+            self.beyond(shed.asked, shed.first + place, keep)
         } else {
             None
         }
     }
 
     // The first lot of the shed that claims a lane behind those that are kept.
-    fn beyond_any(
-        &self,
-        asked: Application,
-        first: usize,
-        supply: &[u16; 8],
-        keep: &[u16; 8],
-        lanes: usize,
-    ) -> Option<u8>
-        requires lanes { lanes ≤ 8 }
-        requires first { first ≤ 32 }
-        ensures { result ≡ first_of (beyond_at (contents self.now.book) (asking (holding (board self.now)) asked.lane asked.lot) first supply.now keep.now) 0 lanes }
+    fn beyond_any(&self, shed: &AskedShed) -> Option<u8>
+        ensures { result ≡ first_of (beyond_at (contents self.now.book) (claiming self.now shed.now.asked) shed.now.first shed.now.supply shed.now.keep) 0 shed.now.lanes }
     {
-        for place in 0..lanes {
-            if let Some(lot) = self.beyond_at(asked, first, supply, keep, place) {
-                return Some(lot);
-            }
-        }
-        None
+        (0..shed.lanes).find_map(|place| self.beyond_at(shed, place))
     }
 
     // Who has to go if the lot asks the lane: the lot itself where the lane does not rank it, and none where all can stay.
@@ -99,9 +64,15 @@ impl Table {
         let shed = self.book.shed_of(lane)?;
         let place = self.book.place_of(lane)?;
         let card = self.book.card(shed)?;
-        let mut supply = self.lots.filling(&self.book, shed);
+        let mut supply = self.lots.lines.filling(&self.book, shed);
         supply[place] += 1;
         let keep = rule.choice(&card, &supply);
-        self.beyond_any(asked, lane - place, &supply, &keep, card.lanes)
+        self.beyond_any(&AskedShed {
+            asked,
+            first: lane - place,
+            lanes: card.lanes,
+            supply,
+            keep,
+        })
     }
 }

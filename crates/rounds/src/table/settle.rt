@@ -11,10 +11,10 @@ impl Table {
         ensures answer { result ≡ (settle (R.SharingRule.meaning rule.now) (board self.old)).count - (board self.old).count }
         ensures board { board self.new ≡ settle (R.SharingRule.meaning rule.now) (board self.old) }
     {
-        let before = self.lots.count();
-        while let Some(lot) = self.lots.lowest_looking() {
+        let before = self.lots.count;
+        while let Some(lot) = self.lots.lines.lowest_looking() {
             let _ = self.apply(rule, lot);
         }
-        self.lots.count() - before
+        self.lots.count - before
     }
 }

@@ -15,4 +15,4 @@ returns g c =
     let listed : ℕ → Bool = λ lot. is_some (list_at ls lot) in
     count_from_yields_List c.filter.result c.count.result c.count.ensures.ran (YieldsList-from_filter _ listed (YieldsList-from_range 0 256 256 (cc) refl) c.filter.ensures.closure (λ x b q k. search rules))
     ∙ length-filter listed (range_with_len 0 256)
-    ∙ all_listed ls t.lists_lawful.0
+    ∙ all_listed ls t.facts.lists_lawful.0

@@ -1,6 +1,8 @@
-use Rattle.std.proofs.Common.{◌+◌, ◌<◌, length, take, sym, subst, arith, length-take}
+use Rattle.std.proofs.Common.{◌+◌, ◌<◌, List, length, take, sym, ap, ◌∙◌, subst, arith, length-take}
 use Rattle.books.specs.Contents.{contents}
 use Rattle.books.proofs.Laid.{book_laid}
+use Rattle.boards.specs.declared.line.Line.{Line}
+use Rattle.boards.specs.Boards.{filling}
 use Rattle.boards.proofs.Seats.{Counts, seated_few, counts_none, counts_more, counts_same, counts_all}
 use Rattle.rounds.proofs.lines.Lines.filling.Goals as goal
 use Rattle.rounds.proofs.lines.Lines.filling.Goals.{in-Some, in_default}
@@ -8,7 +10,7 @@ use Rattle.rounds.proofs.lines.Lines.filling.Goals.{in-Some, in_default}
 pub overflow_add-counts : goal.overflow_add-counts
 overflow_add-counts c =
     let b = contents c.args.book.now in
-    let ys = c.args.self.now.lines in
+    let ys = c.self.inside.lines in
     let i = c.loop-line.line-index in
     let p = c.in-Some.place in
     omega (arith, c.loop-line.invariant.1 p c.in-Some.ensures.on_card, seated_few b (take i ys) c.args.shed p, length-take i ys, c.loop-line-test.true)
@@ -20,9 +22,9 @@ pub loop-line-preserved : goal.loop-line-preserved
 loop-line-preserved c =
     let b = contents c.args.book.now in
     let laid = book_laid c.args.book.now in
-    let ys = c.args.self.now.lines in
+    let ys = c.self.inside.lines in
     let i = c.loop-line.line-index in
-    let inside : i < length ys = omega (arith, c.args.self.now.full, c.loop-line-test.true) in
+    let inside : i < length ys = omega (arith, c.self.invariant, c.loop-line-test.true) in
     let g = c.args.shed in
     let xs = c.loop-line.counts in
     elim c.match-seat.branch [
@@ -31,4 +33,8 @@ loop-line-preserved c =
     ]
 
 pub returns : goal.returns
-returns c = counts_all (contents c.args.book.now) c.args.shed c.args.self.now.lines c.loop-line.line-index (omega (arith, c.args.self.now.full, c.loop-line-test.false)) c.loop-line.counts c.loop-line.invariant
+returns c =
+    let b = contents c.args.book.now in
+    let ys = c.self.inside.lines in
+    counts_all b c.args.shed ys c.loop-line.line-index (omega (arith, c.self.invariant, c.loop-line-test.false)) c.loop-line.counts c.loop-line.invariant
+    ∙ ap (λ (zs : List Line). filling b zs c.args.shed) c.self.view_is

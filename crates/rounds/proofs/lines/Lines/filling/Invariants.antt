@@ -4,4 +4,4 @@ use Rattle.boards.proofs.Seats.{Counts}
 use Rattle.rounds.proofs.lines.Lines.filling.Given as goal
 
 abbrev pub invariant-loop-line : goal.invariant-loop-line
-invariant-loop-line l = Counts (contents l.book) (take l.line-index l.self.lines) l.shed l.counts
+invariant-loop-line l = Counts (contents l.book) (take l.line-index l.line-items) l.shed l.counts

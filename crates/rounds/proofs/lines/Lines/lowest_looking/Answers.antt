@@ -1,42 +1,22 @@
-use Rattle.std.proofs.Common.{◌≡◌, ℕ, suc, ◌+◌, ◌<◌, true, false, List, length, get_or, drop, Some, sym, refl, ap, ◌∙◌, arith}
-use Rattle.std.proofs.lemmas.List.{at_drop_more, at_drop_all}
+use Rattle.std.proofs.Common.{◌≡◌, ℕ, suc, ◌+◌, true, false, cond, List, [], ◌∷◌, Some, refl, ap, ◌∙◌, arith, rules, tests}
+use Rattle.std.specs.List.{position_from}
+use Rattle.std.proofs.lemmas.Iterator.{YieldsList-from_slice}
+use Rattle.std.proofs.lemmas.Iterator.Adapters.{position_from-zero}
+use Rattle.std.proofs.lemmas.Iterator.Search.{position_from_yields_List}
 use Rattle.boards.specs.declared.line.Line.{Line}
-use Rattle.boards.specs.declared.line.Line.TheVariants.{Absent, Looking, Held, Spent}
 use Rattle.boards.specs.Lines.{looks, lowest}
 use Rattle.rounds.proofs.lines.Lines.lowest_looking.Goals as goal
 
-looks_not : (y : Line) → ((n : ℕ) → y ≡ Looking n → ⊥) → looks y ≡ false
-looks_not Absent never = refl
-looks_not (Looking n) never = absurd (never n refl)
-looks_not (Held l) never = refl
-looks_not Spent never = refl
-
--- the lowest from a lot on, by whether the lot looks
-from_here : (ys : List Line) (i : ℕ) → i < length ys → lowest i (drop i ys) ≡ elim (looks (get_or ys i Absent)) [ true ↦ Some i | false ↦ lowest (suc i) (drop (i + 1) ys) ]
-from_here ys i h = at_drop_more (lowest i) ys i Absent h
-
-here : (ys : List Line) (i n : ℕ) → i < length ys → get_or ys i Absent ≡ Looking n → lowest i (drop i ys) ≡ Some i
-here ys i n h e = from_here ys i h ∙ ap (λ y. elim (looks y) [ true ↦ Some i | false ↦ lowest (suc i) (drop (i + 1) ys) ]) e
-
-later : (ys : List Line) (i : ℕ) → i < length ys → ((n : ℕ) → get_or ys i Absent ≡ Looking n → ⊥) → lowest i (drop i ys) ≡ lowest (i + 1) (drop (i + 1) ys)
-later ys i h never =
-    let more : suc i ≡ i + 1 = omega arith in
-    from_here ys i h ∙ ap (λ b. elim b [ true ↦ Some i | false ↦ lowest (suc i) (drop (i + 1) ys) ]) (looks_not (get_or ys i Absent) never) ∙ ap (λ k. lowest k (drop (i + 1) ys)) more
-
-pub loop-lot-preserved : goal.loop-lot-preserved
-loop-lot-preserved c =
-    let ys = c.args.self.now.lines in
-    let i = c.loop-lot.lot in
-    sym (later ys i (omega (arith, c.args.self.now.full, c.loop-lot-test.true)) c.in_default.not-Looking) ∙ c.loop-lot.invariant
-
-pub returns-in-Looking : goal.returns-in-Looking
-returns-in-Looking c =
-    let ys = c.args.self.now.lines in
-    let i = c.loop-lot.lot in
-    sym (here ys i c.in-Looking.next (omega (arith, c.args.self.now.full, c.loop-lot-test.true)) c.in-Looking.is) ∙ c.loop-lot.invariant
+-- the lowest lot that looks is the first place whose line looks
+lowest_from : (ys : List Line) (k : ℕ) → position_from looks k ys ≡ lowest k ys
+lowest_from [] k = refl
+lowest_from (y ∷ ys) k = elim (looks y) as (λ b. cond b (Some k) (position_from looks (k + 1) ys) ≡ elim b [ true ↦ Some k | false ↦ lowest (suc k) ys ]) [
+  | true ↦ refl
+  | false ↦ (let more : k + 1 ≡ suc k = omega arith in ap (λ n. position_from looks n ys) more ∙ lowest_from ys (suc k))
+]
 
 pub returns : goal.returns
 returns c =
-    let ys = c.args.self.now.lines in
-    let i = c.loop-lot.lot in
-    sym (at_drop_all (lowest i) ys i (omega (arith, c.args.self.now.full, c.loop-lot-test.false))) ∙ c.loop-lot.invariant
+    let ys = c.self.inside.lines in
+    position_from_yields_List looks _ _ c.position.result c.position.ensures.ran (YieldsList-from_slice ys c.iter.ensures.rest) (λ x b q k. search (rules, tests))
+    ∙ position_from-zero looks ys ∙ lowest_from ys 0 ∙ ap (lowest 0) c.self.view_is

@@ -1,28 +1,15 @@
-use Rattle.std.proofs.Common.{◌≡◌, ◌-◌, sym, ap, ◌∙◌, arith}
+use Rattle.std.proofs.Common.{arith, rules}
+use Rattle.std.proofs.lemmas.Iterator.{serves_from_Range}
 use Rattle.books.specs.Contents.{contents}
-use Rattle.matching.specs.Offers.{asking}
-use Rattle.boards.specs.Boards.{holding}
-use Rattle.boards.specs.Searches.{beyond_at, first_of}
-use Rattle.rounds.specs.Tables.{board}
-use Rattle.boards.proofs.Searching.{first_finds, first_passes, first_ends}
+use Rattle.boards.specs.Searches.{beyond_at}
+use Rattle.rounds.specs.Claims.{claiming}
+use Rattle.rounds.proofs.FirstFound.{first_from_find_map}
 use Rattle.rounds.proofs.table.Table.beyond_any.Goals as goal
 
-pub loop-place-init : goal.loop-place-init
-loop-place-init c =
-    let f = beyond_at (contents c.args.self.now.book) (asking (holding (board c.args.self.now)) c.args.asked.lane c.args.asked.lot) c.args.first c.args.supply.now c.args.keep.now in
-    ap (first_of f 0) (let all : c.args.lanes - 0 ≡ c.args.lanes = omega arith in all)
-
-pub returns-in-Some : goal.returns-in-Some
-returns-in-Some c =
-    let f = beyond_at (contents c.args.self.now.book) (asking (holding (board c.args.self.now)) c.args.asked.lane c.args.asked.lot) c.args.first c.args.supply.now c.args.keep.now in
-    sym (first_finds f c.loop-place.place c.args.lanes c.in-Some.lot c.loop-place-test.true (sym c.in-Some.ensures)) ∙ c.loop-place.invariant
-
-pub loop-place-preserved : goal.loop-place-preserved
-loop-place-preserved c =
-    let f = beyond_at (contents c.args.self.now.book) (asking (holding (board c.args.self.now)) c.args.asked.lane c.args.asked.lot) c.args.first c.args.supply.now c.args.keep.now in
-    sym (first_passes f c.loop-place.place c.args.lanes c.loop-place-test.true (sym c.in_default.ensures)) ∙ c.loop-place.invariant
+pub find_map-requires-clause-callable : goal.find_map-requires-clause-callable
+find_map-requires-clause-callable c = serves_from_Range (λ x q k. search rules) (λ x a b _ _ _ _ _ _. omega (arith, b, c.args.shed.now.few_lanes))
 
 pub returns : goal.returns
 returns c =
-    let f = beyond_at (contents c.args.self.now.book) (asking (holding (board c.args.self.now)) c.args.asked.lane c.args.asked.lot) c.args.first c.args.supply.now c.args.keep.now in
-    sym (first_ends f c.loop-place.place c.args.lanes c.loop-place-test.false) ∙ c.loop-place.invariant
+    let shed = c.args.shed.now in
+    first_from_find_map _ _ (beyond_at (contents c.args.self.now.book) (claiming c.args.self.now shed.asked) shed.first shed.supply shed.«keep») (λ x o q called. search rules) shed.lanes c.find_map.result c.find_map.ensures.runs

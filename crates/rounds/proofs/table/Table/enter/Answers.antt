@@ -1,58 +1,41 @@
-use Rattle.std.proofs.Common.{◌≡◌, ℕ, length, Some, Ok, Err, Result, sym, ap, ◌∙◌, rules}
-use Rattle.std.specs.Option.{option_map}
-use Rattle.std.proofs.lemmas.List.{map-set}
-use Rattle.sheets.specs.declared.fault.Fault.{Fault}
-use Rattle.books.specs.Contents.{contents}
-use Rattle.boards.specs.Slips.{list_of, lists_of}
+use Rattle.std.proofs.Common.{◌≡◌, ℕ, ◌<◌, ◌≤◌, false, length, is_some, Ok, sym, ap, ◌∙◌, subst, arith}
+use Rattle.std.proofs.lemmas.Result.{err_from_is_err_and}
+use Rattle.boards.specs.Slips.{list_of, list_at}
 use Rattle.boards.specs.Boards.{entered, lot_of, slip_of, enter}
+use Rattle.rounds.specs.Lots.{board_from, Facts}
 use Rattle.rounds.specs.Tables.{board}
 use Rattle.boards.proofs.BoardLists.{slip_unknown, slip_read}
 use Rattle.boards.proofs.FormedEnters.{entered_formed}
-use Rattle.rounds.proofs.FormedTables.{formed, facts_of}
+use Rattle.rounds.proofs.FormedTables.{formed, facts}
 use Rattle.rounds.proofs.table.Table.enter.Goals as goal
 use Rattle.rounds.proofs.table.Table.enter.Goals.{After-enter}
 
-pub returns-then-lot-gt255 : goal.returns-then-lot-gt255
-returns-then-lot-gt255 c =
+pub returns-in_err-lot-2-clause-answer : goal.returns-in_err-lot-2-clause-answer
+returns-in_err-lot-2-clause-answer c =
     let s = board c.args.self.now in
-    let e = slip_unknown (length s.book.lanes) s.lists c.args.slip.now c.in_ok-lot.lot c.in_ok-lot.rest.now (sym c.in_ok-lot.ensures) (search rules) in
-    record {
-      answer = ap {B = Result ℕ Fault} Err c.new.ensures ∙ sym (ap lot_of e);
-      board = sym (ap (entered s) e);
-    }
+    let high : 256 ≤ c.in_ok-lot.lot = grind arith in
+    let e = slip_unknown (length s.book.lanes) s.lists c.args.slip.now c.in_ok-lot.lot c.in_ok-lot.rest.now (sym c.in_ok-lot.ensures) high in
+    let p = err_from_is_err_and c.from_residual-in_err-lot-2.result c.from_residual-in_err-lot-2.ensures.1 in
+    rw (p.1, p.2) (grind (arith, ap lot_of e))
 
 -- an accepted slip
-accepted : (c : goal.After-enter) → slip_of (board c.args.self.now) c.args.slip.now ≡ Ok (c.in_ok-lot.lot, list_of c.in_ok-list.list)
+accepted : (c : goal.After-enter) → slip_of (board c.args.self.now) c.args.slip.now ≡ Ok (c.in_ok-lot-2.lot, list_of c.in_ok-list.list)
 accepted c =
     let s = board c.args.self.now in
-    slip_read (length s.book.lanes) s.lists c.args.slip.now c.in_ok-lot.lot c.in_ok-lot.rest.now (sym c.in_ok-lot.ensures) (search rules) (sym c.if-is_entered.ensures)
-    (Ok (list_of c.in_ok-list.list)) (sym c.in_ok-list.ensures)
+    let small : c.in_ok-lot.lot < 256 = grind arith in
+    let same : c.in_ok-lot-2.lot ≡ c.in_ok-lot.lot = grind arith in
+    let fresh : is_some (list_at s.lists c.in_ok-lot.lot) ≡ false = grind arith in
+    slip_read (length s.book.lanes) s.lists c.args.slip.now c.in_ok-lot.lot c.in_ok-lot.rest.now (sym c.in_ok-lot.ensures) small fresh (Ok (list_of c.in_ok-list.list)) (sym c.in_ok-list.ensures)
+    ∙ ap (λ (n : ℕ). Ok (n, list_of c.in_ok-list.list)) (sym same)
 
-left : (c : goal.After-enter) → record { book = contents c.args.self.now.book; lists = lists_of c.enter.new.self.lists; lines = c.enter.new.self.lines.lines; count = c.enter.new.self.count } ≡ enter (board c.args.self.now) c.args.slip.now
-left c =
-    let s = board c.args.self.now in
-    (λ i. record {
-      book = s.book;
-      lists = (ap lists_of c.enter.ensures.lists ∙ map-set (option_map list_of) c.args.self.now.lots.lists c.in_ok-lot.lot (Some c.in_ok-list.list)) i;
-      lines = c.enter.ensures.lines i;
-      count = c.enter.ensures.count i;
-    }) ∙ sym (ap (entered s) (accepted c))
+left : (c : goal.After-enter) → board_from c.args.self.now.book c.enter.new.self ≡ enter (board c.args.self.now) c.args.slip.now
+left c = ap (board_from c.args.self.now.book) c.enter.ensures ∙ sym (ap (entered (board c.args.self.now)) (accepted c))
 
 pub invariant_of-self : goal.invariant_of-self
 invariant_of-self c =
     let s = board c.args.self.now in
-    let f =
-    facts_of (record { book = contents c.args.self.now.book; lists = lists_of c.enter.new.self.lists; lines = c.enter.new.self.lines.lines; count = c.enter.new.self.count })
-    (enter s c.args.slip.now) (left c) (entered_formed s (formed c.args.self.now) c.args.slip.now)
-    in
-    record {
-      lists_lawful = f.lists_lawful;
-      lines_fit = f.lines_fit;
-      held_ranked = f.held_ranked;
-      lanes_within = f.lanes_within;
-      sheds_within = f.sheds_within;
-      counted = f.counted;
-    }
+    let slip = c.args.slip.now in
+    record { facts = subst Facts (sym (left c)) (facts (enter s slip) (entered_formed s (formed c.args.self.now) slip)) }
 
 pub returns : goal.returns
 returns c =

@@ -1,4 +1,4 @@
-use Rattle.std.proofs.Common.{◌≡◌, ℕ, ◌+◌, ◌-◌, ◌<◌, true, List, length, set, Some, sym, ap, ◌∙◌, subst, arith}
+use Rattle.std.proofs.Common.{◌≡◌, ℕ, ◌+◌, ◌-◌, ◌<◌, true, List, length, set, Some, sym, ap, ◌∙◌, subst, arith, rules}
 use Rattle.sharing.specs.Cards.{terms}
 use Rattle.sharing.specs.Rules.{at}
 use Rattle.books.specs.Lanes.{has}
@@ -12,6 +12,7 @@ use Rattle.matching.specs.Offers.{asking}
 use Rattle.boards.specs.Boards.{line_of, wishes, holding, filling}
 use Rattle.boards.specs.Searches.{next_wish, supplied, first_of, beyond_at}
 use Rattle.rounds.specs.Tables.{board}
+use Rattle.rounds.specs.Claims.{claiming}
 use Rattle.rounds.proofs.FormedTables.{formed}
 use Rattle.boards.proofs.LeaversAsked.{wish_of, asked_known, lane_says, lane_there, card_says, card_there, filling_few, found}
 use Rattle.rounds.proofs.table.Table.leaver.Goals as goal
@@ -65,9 +66,9 @@ bounds-supply-place-2 g c = bounds-supply-place g c
 pub overflow_add-supply : goal.overflow_add-supply
 overflow_add-supply g c =
     let t = c.args.self.now in
-    let few = filling_few (contents t.book) t.lots.lines.lines c.in_ok-shed.shed c.in_ok-place.place in
-    let is : at c.filling-supply.result c.in_ok-place.place ≡ at (filling (contents t.book) t.lots.lines.lines c.in_ok-shed.shed) c.in_ok-place.place = ap (λ (f : List ℕ). at f c.in_ok-place.place) c.filling-supply.ensures in
-    omega (arith, t.lots.lines.full)
+    let few = filling_few (contents t.book) t.lots.lines c.in_ok-shed.shed c.in_ok-place.place in
+    let is : at c.filling-supply.result c.in_ok-place.place ≡ at (filling (contents t.book) t.lots.lines c.in_ok-shed.shed) c.in_ok-place.place = ap (λ (f : List ℕ). at f c.in_ok-place.place) c.filling-supply.ensures in
+    omega (arith, t.facts.lines_fit.0)
 
 pub overflow_sub-lane : goal.overflow_sub-lane
 overflow_sub-lane g c =
@@ -77,15 +78,18 @@ overflow_sub-lane g c =
     let place = lane_says (contents t.book) lane inside (λ e. e.place) c.place_of.result c.place_of.ensures c.in_ok-place.place c.in_ok-place.was in
     omega (arith, (book_laid t.book).in_order lane inside)
 
-pub beyond_any-requires : goal.beyond_any-requires
-beyond_any-requires g c =
+pub invariant_of-beyond_any : goal.invariant_of-beyond_any
+invariant_of-beyond_any g c =
     let t = c.args.self.now in
     record {
-      lanes = c.in_ok-card.card.few_lanes;
-      first = omega (arith, known t c.args.asked.lot c.args.asked.lane c.requires, (book_laid t.book).lanes_are_few);
+      first_known = omega (arith, known t c.args.asked.lot c.args.asked.lane c.requires, (book_laid t.book).lanes_are_few);
+      few_lanes = c.in_ok-card.card.few_lanes;
+      eight_supplied = search rules;
+      eight_kept = search rules;
     }
 
 pub returns : goal.returns
+unfolding claiming
 returns g c =
     let t = c.args.self.now in
     let s = board t in

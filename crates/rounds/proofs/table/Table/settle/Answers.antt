@@ -41,6 +41,6 @@ returns g c =
     let s = board c.loop-lot.self in
     let done : s ≡ settle m (board c.args.self.now) = sym (settle_stop m (all_wishes s.lists) s (sym c.lowest_looking.ensures ∙ c.in_default.is)) ∙ c.loop-lot.invariant.0 in
     record {
-      answer = (λ i. (c.count.ensures ∙ ap (λ (s : Board). s.count) done) i - c.loop-lot.invariant.1 i);
+      answer = (λ i. ap (λ (s : Board). s.count) done i - c.loop-lot.invariant.1 i);
       board = done;
     }

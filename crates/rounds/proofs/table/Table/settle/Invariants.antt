@@ -1,5 +1,4 @@
 use Rattle.std.proofs.Common.{◌≡◌, ◌-◌, ◌≤◌}
-use Rattle.boards.specs.Slips.{lists_of}
 use Rattle.boards.specs.Boards.{all_wishes, settle}
 use Rattle.rounds.specs.Tables.{board}
 use Rattle.rounds.proofs.table.Table.settle.Given as goal
@@ -10,4 +9,4 @@ invariant-loop-lot g l =
     (l.before ≡ l.initial.self.lots.count) × (l.before ≤ l.self.lots.count)
 
 abbrev pub decreases-loop-lot : goal.decreases-loop-lot
-decreases-loop-lot g l = all_wishes (lists_of l.self.lots.lists) - l.self.lots.count
+decreases-loop-lot g l = all_wishes (l.self.lots.lists) - l.self.lots.count
