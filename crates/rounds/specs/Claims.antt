@@ -1,6 +1,6 @@
 -- Who claims a lane while a lot asks it.
 use Rattle.rounds.specs.declared.table.Table.{Table}
-use Rattle.rounds.specs.declared.table.asked.Application.{Application}
+use Rattle.rounds.specs.declared.table.leaver.Application.{Application}
 use Rattle.matching.specs.Offers.{Offers, asking}
 use Rattle.boards.specs.Boards.{holding}
 use Rattle.rounds.specs.Tables.{board}

@@ -1,13 +1,15 @@
-ghost use Rattle.std.specs.Prelude.{◌≡◌, List, length, replicate, slice_index_or, slice_set};
+ghost use Rattle.std.specs.Prelude.{◌≡◌, ◌<◌, List, length, replicate, IfSome, slice_index_or, slice_set};
+ghost use Rattle.books.specs.Contents.{contents};
 ghost use Rattle.boards.specs.declared.line.Line.{Line};
 ghost use Rattle.boards.specs.Lines.{noted, lowest};
 ghost use Rattle.boards.specs.Slips.{list_of};
+ghost use Rattle.boards.specs.Boards.{filling};
+ghost use Rattle.boards.specs.Searches.{seat};
 
 use boards::line::{Event, Line};
 use boards::wishes::Wishes;
+use books::book::Book;
 use std::marker::Model;
-
-pub mod filling;
 
 // The line of each lot.
 #[derive(Drop)]
@@ -22,6 +24,19 @@ impl Model for Lines {
     ghost view = { λ s. s.lines };
 
     ghost invariant = { λ s. length s.lines ≡ 256 };
+}
+
+// The place on a shed's card of the lane that holds the lot; none if it is held elsewhere or not at all.
+fn seat(book: &Book, shed: usize, line: Line) -> Option<usize>
+    ensures place { result ≡ seat (contents book.now) shed line }
+    ensures on_card { IfSome result (λ p. p < 8) }
+{
+    match line {
+        Line::Held { lane } if book.shed_of(lane as usize) == Some(shed) => {
+            book.place_of(lane as usize)
+        }
+        _ => None,
+    }
 }
 
 impl Lines {
@@ -56,5 +71,18 @@ impl Lines {
         self.lines
             .iter()
             .position(|line| matches!(line, Line::Looking { .. }))
+    }
+
+    // How many lots each lane of a shed holds, by its place on the card.
+    pub(crate) fn filling(&self, book: &Book, shed: usize) -> [u16; 8]
+        ensures { result ≡ filling (contents book.now) self.now shed }
+    {
+        let mut counts = [0u16; 8];
+        for line in &self.lines {
+            if let Some(place) = seat(book, shed, *line) {
+                counts[place] += 1;
+            }
+        }
+        counts
     }
 }

@@ -1,4 +1,4 @@
-ghost use Rattle.std.specs.Prelude.{◌≡◌, ℕ, List, length, replicate, Some, None, Option, slice_set};
+ghost use Rattle.std.specs.Prelude.{◌≡◌, ℕ, List, replicate, Some, None, Option, slice_set};
 ghost use Rattle.std.specs.Option.{option_map};
 ghost use Rattle.boards.specs.Lines.{wishes_of};
 ghost use Rattle.boards.specs.Slips.{list_of, lists_of, list_at};
@@ -17,8 +17,6 @@ impl Model for Lists {
     ghost Value = { List (Option (List ℕ)) };
 
     ghost view = { λ s. lists_of s.lists };
-
-    ghost invariant = { λ s. length s.lists ≡ 256 };
 }
 
 impl Lists {

@@ -1,15 +1,36 @@
-ghost use Rattle.std.specs.Prelude.{◌≡◌, ◌≤◌, ◌<◌, length, Some};
-ghost use Rattle.books.specs.Contents.{contents, ranking_of};
-ghost use Rattle.boards.specs.Boards.{line_of, wishes};
-ghost use Rattle.boards.specs.Searches.{next_wish, beyond, beyond_at, first_of, goes};
-ghost use Rattle.rounds.specs.Tables.{board};
-ghost use Rattle.rounds.specs.Claims.{claiming};
+ghost use Rattle.std.specs.Prelude.{◌≡◌, ◌≤◌, ◌<◌, Some};
 
 use crate::table::Table;
-use crate::table::asked::{Application, AskedShed};
 use sharing::rule::SharingRule;
 
+// A lot, and the lane that it asks.
+#[derive(Clone, Copy)]
+pub(super) struct Application {
+    pub(super) lot: u8,
+    pub(super) lane: u8,
+}
+
+// The shed of the lane that is asked, and what a rule has chosen for it.
+#[derive(Clone, Copy)]
+pub(super) struct AskedShed {
+    pub(super) asked: Application,
+    // the shed's first lane
+    pub(super) first: usize,
+    pub(super) lanes: usize,
+    // how many lots each lane is supplied with, and how many of them it keeps, by its place on the card
+    pub(super) supply: [u16; 8],
+    pub(super) keep: [u16; 8],
+    ghost first_known: { first ≤ 32 },
+    ghost few_lanes: { lanes ≤ 8 },
+}
+
 impl Table {
+    ghost use Rattle.books.specs.Contents.{contents, ranking_of};
+    ghost use Rattle.boards.specs.Boards.{line_of, wishes};
+    ghost use Rattle.boards.specs.Searches.{next_wish, beyond, beyond_at, first_of, goes};
+    ghost use Rattle.rounds.specs.Tables.{board};
+    ghost use Rattle.rounds.specs.Claims.{claiming};
+
     // Does the lane hold the lot, or does the lot ask there?
     #[tactic(auto, unfolding(crate::specs::Claims::claiming))]
     fn claims(&self, asked: Application, lane: usize, lot: u8) -> bool
