@@ -91,7 +91,7 @@ impl Table {
         self.beyond_any(&AskedShed {
             asked,
             first: lane - place,
-            lanes: card.lanes,
+            lanes: card.lanes.len(),
             supply,
             keep,
         })

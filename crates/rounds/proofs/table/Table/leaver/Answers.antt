@@ -1,10 +1,10 @@
 use Rattle.std.proofs.Common.{◌≡◌, ℕ, ◌+◌, ◌-◌, ◌<◌, true, List, length, set, Some, sym, ap, ◌∙◌, arith}
 use Rattle.sharing.specs.Cards.{terms}
 use Rattle.sharing.specs.Rules.{at}
+use Rattle.sharing.specs.Within.{lanes_are}
 use Rattle.books.specs.Lanes.{has}
 use Rattle.books.specs.Contents.{contents, lane_of, ranking_of}
 use Rattle.books.specs.Laid.{shed_of, first_lane}
-use Rattle.books.proofs.Standing.{card_lanes}
 use Rattle.books.proofs.Laid.{book_laid}
 use Rattle.matching.proofs.Sheds.{few_on_card}
 use Rattle.matching.specs.Offers.{asking}
@@ -92,7 +92,7 @@ invariant_of-beyond_any g c =
     let t = c.args.self.now in
     record {
       first_known = omega (arith, known t c.args.asked.lot c.args.asked.lane c.requires, (book_laid t.book).lanes_are_few);
-      few_lanes = c.in_ok-card.card.few_lanes;
+      few_lanes = c.len.ensures.fits;
     }
 
 pub returns : goal.returns
@@ -117,5 +117,5 @@ returns g c =
     let law = g.met.R.SharingRule.lawful c.args.rule.now in
     let m = g.R.SharingRule.meaning c.args.rule.now in
     c.beyond_any.ensures ∙
-    ap (first_of (beyond_at b (asking (holding s) lane lot) (lane - c.in_ok-place.place) supply c.choice-keep.result) 0) (sym (card_lanes c.in_ok-card.card)) ∙
+    ap (first_of (beyond_at b (asking (holding s) lane lot) (lane - c.in_ok-place.place) supply c.choice-keep.result) 0) (c.len.ensures.value ∙ sym (lanes_are c.in_ok-card.card)) ∙
     found m law s (formed t) lot asks.0 asks.1 lane asks.2 ranks (lane - c.in_ok-place.place) first supply supplying (terms c.in_ok-card.card) card c.choice-keep.result c.choice-keep.ensures
