@@ -14,7 +14,7 @@ use Rattle.sheets.specs.declared.word.BookWord.TheVariants.{Shed, Lane, Rank, Ne
 use Rattle.sheets.specs.Faults.{standing, fault}
 use Rattle.sheets.specs.Words.{book_word}
 use Rattle.sharing.specs.Cards as cards
-use Rattle.books.specs.Contents.{Contents, last_terms, last_shed, no_entry, with_shed, with_lane, with_record, with_lot, lane_of, ranked_entry, recorded_entry}
+use Rattle.books.specs.Contents.{Contents, blank_entry, last_terms, last_shed, no_entry, with_shed, with_lane, with_record, with_lot, lane_of, ranked_entry, recorded_entry}
 use Rattle.books.specs.Faulty.{is_shed, is_lane, is_rank, ranks_lane, names_lot, targets_in, any_of, count_of, since, nearest_cap, misplaced, too_many, unknown, twice, overtargeted, wrong, faulty, strange_only, HasFault, FirstFault}
 use Rattle.books.specs.Lanes.{Entry, has}
 use Rattle.books.proofs.Distinct.{has_push}
@@ -86,7 +86,7 @@ reads_lane : (os : List (Option BookWord)) (r : Reading) (t q : ℕ) → 0 < len
     Reads (Some (Lane t q) ∷ os) (record { book = with_lane r.book t q; ranking = r.ranking })
 reads_lane os r t q some none k =
     let c = r.book in
-    let fresh : Entry = record { shed = last_shed c; place = length (last_terms c).capacities; recorded = false; ranking = [] } in
+    let fresh = blank_entry (last_shed c) (length (last_terms c).capacities) in
     let same = length-set c.sheds (last_shed c) (cards.more_terms (last_terms c) t q) in
     let more = length_push c.lanes fresh in
     let last = last_of_lane c t q some in

@@ -1,12 +1,12 @@
 -- The lanes of a book stay in order, word by word.
-use Rattle.std.proofs.Common.{◌≡◌, ℕ, zero, suc, ◌+◌, ◌<◌, ◌≤◌, ◌≢◌, [], ◌∷◌, length, set, sym, refl, ap, ◌∙◌, subst, inl, inr, arith, length-set}
-use Rattle.std.proofs.lemmas.List.{get_or-set_same, get_or-set_other, get_or_push, get_or_append_left, length_push}
+use Rattle.std.proofs.Common.{◌≡◌, ℕ, zero, suc, ◌+◌, ◌<◌, ◌≤◌, ◌≢◌, true, [], ◌∷◌, length, set, sym, refl, ap, ◌∙◌, subst, inl, inr, arith, length-set}
+use Rattle.std.proofs.lemmas.List.{get_or-set_same, get_or-set_other, get_or_past, get_or_push, get_or_append_left, length_push}
 use Rattle.std.proofs.lemmas.Bool.{cases_eq, cases_lt}
 use Rattle.sharing.specs.Cards.{Terms, more_terms}
 use Rattle.sharing.specs.Rules.{lanes, sum_to}
 use Rattle.sharing.specs.Sums.{sum_same}
 use Rattle.books.specs.Lanes.{Entry}
-use Rattle.books.specs.Entries.{Contents, no_shed, no_entry, lane_of, last_shed, last_terms, with_shed, with_lane, blank_entry}
+use Rattle.books.specs.Entries.{Contents, no_shed, no_entry, lane_of, last_shed, last_terms, with_shed, with_lane, blank_entry, with_lot, ranked_entry}
 use Rattle.books.specs.Laid.{shed_of, first_lane, Stands, Ordered}
 
 -- a sum over more sheds
@@ -28,6 +28,14 @@ at_lanes P c l m e h here other =
     elim (cases_eq m l) [
       | inl same ↦ subst (λ n. P n (lane_of (record { sheds = c.sheds; lanes = set c.lanes l e }) n)) (sym same) (subst (P l) (sym (get_or-set_same c.lanes l e no_entry h)) here)
       | inr apart ↦ subst (P m) (sym (get_or-set_other c.lanes l m e no_entry apart)) (other apart)
+    ]
+
+-- a lane with a record has it still when another lot is ranked
+pub recorded_on : (c : Contents) (l m lot : ℕ) → (lane_of c l).recorded ≡ true → (lane_of c m).recorded ≡ true → (lane_of (with_lot c l lot) m).recorded ≡ true
+recorded_on c l m lot here there =
+    elim (cases_lt l (length c.lanes)) [
+      | inl known ↦ at_lanes (λ _ e. e.recorded ≡ true) c l m (ranked_entry (lane_of c l) lot) known here (λ _. there)
+      | inr past ↦ let none = ap (λ (e : Entry). e.recorded) (get_or_past c.lanes l no_entry past) in absurd cc
     ]
 
 -- an entry stands on where the sheds before its own have kept their lanes, and its own has lost none

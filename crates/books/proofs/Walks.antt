@@ -16,7 +16,7 @@ use Rattle.sheets.specs.Words.{book_word}
 use Rattle.sheets.proofs.Passes.{Handed, handed}
 use Rattle.sheets.proofs.Admits.{lane_admitted}
 use Rattle.sharing.specs.Cards.{overtargeted, more_terms}
-use Rattle.books.specs.Contents.{Contents, last_terms, last_shed, no_shed, with_shed, with_lane, with_record, with_lot, lane_of, ranked_entry, recorded_entry}
+use Rattle.books.specs.Contents.{Contents, blank_entry, last_terms, last_shed, no_shed, with_shed, with_lane, with_record, with_lot, lane_of, ranked_entry, recorded_entry}
 use Rattle.books.specs.Lanes.{Entry, has}
 use Rattle.books.specs.Opening.{Reading, progress_of, noted, before, judge, taken, walk, unread, opening, Outcome}
 
@@ -70,7 +70,7 @@ module _ (c : Contents) (l : Option ℕ) where
       record { sheds = length c.sheds; lanes = length c.lanes + 1; lanes_here = length (last_terms c).capacities + 1; ranking = is_some l }
   lane_progress target capacity some = λ i. record {
     sheds = length-set c.sheds (last_shed c) (more_terms (last_terms c) target capacity) i;
-    lanes = length_push c.lanes (record { shed = last_shed c; place = length (last_terms c).capacities; recorded = false; ranking = [] }) i;
+    lanes = length_push c.lanes (blank_entry (last_shed c) (length (last_terms c).capacities)) i;
     lanes_here = (ap (λ t. length t.capacities) (last_of_lane c target capacity some) ∙ length_push (last_terms c).capacities capacity) i;
     ranking = is_some l;
   }

@@ -5,7 +5,7 @@ ghost use Rattle.std.specs.Option.{option_map};
 ghost use Rattle.sharing.specs.Cards.{terms};
 ghost use Rattle.books.specs.Contents.{contents, lane_of, ranking_of};
 ghost use Rattle.books.specs.Laid.{Laid};
-ghost use Rattle.books.specs.Totals.{totals_of};
+ghost use Rattle.books.specs.Totals.{totals_of, shed_totals, lots_ranked};
 
 use crate::book::Book;
 use crate::totals::Totals;
@@ -75,15 +75,37 @@ impl Book {
         Totals {
             sheds: self.cards.len(),
             lanes: self.lanes.len(),
-            caps: self.cards.iter().map(|card| card.cap as u32).sum(),
-            targets: self.cards.iter().map(|card| card.targets()).sum(),
-            capacities: self.cards.iter().map(|card| card.capacities()).sum(),
-            ranked: self.lanes.iter().map(|lane| lane.lots().len() as u32).sum(),
+            caps: self.caps(),
+            targets: self.targets(),
+            capacities: self.capacities(),
+            ranked: self.lots_ranked(),
         }
     }
-}
 
-impl Book {
+    fn caps(&self) -> u32
+        ensures { result ≡ (shed_totals (contents self.now).sheds).0 }
+    {
+        self.cards.iter().map(|card| card.cap as u32).sum()
+    }
+
+    fn targets(&self) -> u32
+        ensures { result ≡ (shed_totals (contents self.now).sheds).1 }
+    {
+        self.cards.iter().map(|card| card.targets()).sum()
+    }
+
+    fn capacities(&self) -> u32
+        ensures { result ≡ (shed_totals (contents self.now).sheds).2 }
+    {
+        self.cards.iter().map(|card| card.capacities()).sum()
+    }
+
+    fn lots_ranked(&self) -> u32
+        ensures { result ≡ lots_ranked (contents self.now).lanes }
+    {
+        self.lanes.iter().map(|lane| lane.lots().len() as u32).sum()
+    }
+
     // Has the lane a ranking record?
     pub(super) fn has_record(&self, lane: usize) -> bool
         ensures { result ≡ (lane_of (contents self.now) lane).recorded }
