@@ -49,7 +49,9 @@ consistent m t r x y sx sy room le l h =
 module _ (c : Contents) (laid : Laid c) where
   module _ (g : ℕ) (here : g < length c.sheds) where
     pub few_on_card : lanes (shed_of c g) ≤ 8
-    few_on_card = let d = laid.carded g here in subst (λ (t : Terms). lanes t ≤ 8) d.1 (lanes_are_few d.0)
+    few_on_card =
+        let d = laid.carded g here in
+        subst (λ (t : Terms). lanes t ≤ 8) d.1 (lanes_are_few d.0)
 
     module _ (O : Offers) where
       abbrev supplied : ℕ → ℕ
