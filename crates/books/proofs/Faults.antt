@@ -1,12 +1,12 @@
 -- What the words before say is what the book says, so the walk refuses a word exactly if it has a fault.
-use Rattle.std.proofs.Common.{◌≡◌, ℕ, zero, suc, ◌+◌, ◌<◌, ◌≤◌, Bool, true, false, cond, not, ◌||◌, eqb, ltb, leb, List, [], ◌∷◌, ◌++◌, map, reverse, length, get_or, take, set, is_some, Some, None, Ok, Err, sum, Option, Result, sym, refl, ap, ◌∙◌, subst, inl, inr, append_assoc, append-nil, arith, length-set}
+use Rattle.std.proofs.Common.{◌≡◌, ℕ, zero, suc, ◌+◌, ◌<◌, ◌≤◌, Bool, true, false, cond, not, ◌||◌, eqb, ltb, leb, List, [], ◌∷◌, ◌++◌, map, reverse, length, get_or, take, is_some, Some, None, Ok, Err, sum, Option, Result, sym, refl, ap, ◌∙◌, subst, inl, inr, append_assoc, append-nil, arith, length-set}
 use mathlib.Core.List.{reverse-cons, map-append}
-use Rattle.std.proofs.lemmas.List.{get_or-set_same, get_or-set_other, get_or_push, get_or_append_left, length_push}
-use Rattle.std.proofs.lemmas.Bool.{cases_Bool, cases_eq, cases_lt, eq-eqb, ne_eqb, eqb-false, leb-false, or_parts, not-false, both_ways}
+use Rattle.std.proofs.lemmas.List.{get_or-set_same, get_or_push, get_or_append_left, length_push}
+use Rattle.std.proofs.lemmas.Bool.{cases_Bool, cases_lt, eq-eqb, ne_eqb, eqb-false, leb-false, or_parts, not-false, both_ways}
 use Rattle.std.proofs.lemmas.Bool.Decides.{nat_tests}
 use Rattle.std.proofs.lemmas.List.Sums.{sum_by_push}
 use Rattle.sheets.specs.declared.fault.Refusal.{Refusal}
-use Rattle.sheets.specs.declared.fault.Refusal.TheVariants.{Ragged, Strange, Misplaced, TooMany, Unknown, Twice, Overtargeted, Idle, Short, Misfit}
+use Rattle.sheets.specs.declared.fault.Refusal.TheVariants.{Ragged, Strange, Misplaced, TooMany, Unknown, Twice, Overtargeted}
 use Rattle.sheets.specs.declared.fault.Fault.{Fault}
 use Rattle.sheets.specs.declared.progress.Progress.{Progress}
 use Rattle.sheets.specs.declared.word.BookWord.{BookWord}
@@ -16,7 +16,7 @@ use Rattle.sheets.specs.Words.{book_word}
 use Rattle.sharing.specs.Cards as cards
 use Rattle.books.specs.Contents.{Contents, blank_entry, last_terms, last_shed, no_entry, with_shed, with_lane, with_record, with_lot, lane_of, ranked_entry, recorded_entry}
 use Rattle.books.specs.Faulty.{is_shed, is_lane, is_rank, ranks_lane, names_lot, targets_in, any_of, count_of, since, nearest_cap, misplaced, too_many, unknown, twice, overtargeted, wrong, faulty, strange_only, HasFault, FirstFault}
-use Rattle.books.specs.Lanes.{Entry, has}
+use Rattle.books.specs.Lanes.{has}
 use Rattle.books.proofs.Distinct.{has_push}
 use Rattle.books.proofs.Standing.{at_lanes}
 use Rattle.books.proofs.Walks.{last_of_shed, last_of_lane}
@@ -75,11 +75,8 @@ reads_shed os r limit k =
 
 no_rank : (os : List (Option BookWord)) (l : ℕ) → any_of is_rank os ≡ false → any_of (ranks_lane l) os ≡ false
 no_rank [] l e = refl
-no_rank (None ∷ os) l e = no_rank os l e
-no_rank (Some (Shed c) ∷ os) l e = no_rank os l e
-no_rank (Some (Lane t q) ∷ os) l e = no_rank os l e
 no_rank (Some (Rank m) ∷ os) l e = absurd cc
-no_rank (Some (Next i) ∷ os) l e = no_rank os l e
+no_rank (_ ∷ os) l e = no_rank os l e
 
 -- a LANE word more, behind a shed and before any ranking
 reads_lane : (os : List (Option BookWord)) (r : Reading) (t q : ℕ) → 0 < length r.book.sheds → is_some r.ranking ≡ false → Reads os r →
@@ -218,12 +215,8 @@ no_flag Ragged = refl
 no_flag _ = refl
 
 none_wrong : {A : Type 0} (m t u w o : Bool) (a s : A) → in_order m t u w o a ≡ Ok s → ((x : Refusal) → flags m t u w o x ≡ false) × (s ≡ a)
-none_wrong true t u w o a s e = absurd cc
-none_wrong false true u w o a s e = absurd cc
-none_wrong false false true w o a s e = absurd cc
-none_wrong false false false true o a s e = absurd cc
-none_wrong false false false false true a s e = absurd cc
 none_wrong false false false false false a s e = (no_flag, cc)
+none_wrong _ _ _ _ _ a s e = absurd cc
 
 -- what a word that is accepted makes of the reading
 ranked : Reading → ℕ → Option ℕ → Reading

@@ -1,6 +1,6 @@
 -- A walk over the words of a sheet, by words, by records and as a whole.
 use Rattle.std.proofs.Common.{◌≡◌, ℕ, suc, ◌+◌, ◌-◌, ◌<◌, Bool, true, false, ◌||◌, eqb, leb, List, [], ◌∷◌, ◌++◌, length, get_or, take, drop, set, is_some, is_ok, Some, None, Ok, Err, Option, Result, sym, refl, ap, ◌∙◌, subst, arith, length-set}
-use Rattle.std.proofs.lemmas.List.{get_or-set_same, get_or_push, length_push, drop_more, drop-drop}
+use Rattle.std.proofs.lemmas.List.{get_or-set_same, get_or_push, length_push, drop_more}
 use Rattle.std.specs.Result.{result_ok}
 use Rattle.sheets.specs.declared.fault.Refusal.{Refusal}
 use Rattle.sheets.specs.declared.fault.Refusal.TheVariants.{Strange, Misplaced, TooMany, Unknown, Twice, Overtargeted}

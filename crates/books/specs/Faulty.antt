@@ -1,7 +1,7 @@
 -- What is wrong with a word of a book sheet, told by the words before it alone.
 use Rattle.std.specs.Prelude.{◌≡◌, ℕ, ◌+◌, ◌<◌, ◌≤◌, Bool, true, false, cond, not, ◌||◌, List, [], ◌∷◌, map, reverse, length, take, Some, None, Ok, Err, Option, Result, ◌==◌, nat_le, nat_lt, slice_index}
 use Rattle.sheets.specs.declared.fault.Refusal.{Refusal}
-use Rattle.sheets.specs.declared.fault.Refusal.TheVariants.{Ragged, Strange, Misplaced, TooMany, Unknown, Twice, Overtargeted, Idle, Short, Misfit}
+use Rattle.sheets.specs.declared.fault.Refusal.TheVariants.{Strange, Misplaced, TooMany, Unknown, Twice, Overtargeted}
 use Rattle.sheets.specs.declared.fault.Fault.{Fault}
 use Rattle.sheets.specs.declared.word.BookWord.{BookWord}
 use Rattle.sheets.specs.declared.word.BookWord.TheVariants.{Shed, Lane, Rank, Next}

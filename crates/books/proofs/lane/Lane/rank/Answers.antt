@@ -1,4 +1,4 @@
-use Rattle.std.proofs.Common.{◌≡◌, ◌<◌, true, [], ◌∷◌, ◌++◌, length, sym, ap, ◌∙◌, subst, arith, rules}
+use Rattle.std.proofs.Common.{◌≡◌, true, [], ◌∷◌, ◌++◌, length, sym, ap, ◌∙◌, subst, arith, rules}
 use Rattle.books.specs.Lanes.{lots_in, distinct, all_below}
 use Rattle.books.proofs.Distinct.{distinct_room, distinct_push, below_push}
 use Rattle.books.proofs.Edits.{pushed_on_ok}
