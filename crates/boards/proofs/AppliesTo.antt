@@ -76,7 +76,7 @@ module _ (m : Meaning) (law : Lawful m) (s : Board) (v : Formed s) (i : ℕ) whe
       go (Looking n) e q =
           let here = ltb-true n (length (wishes s i)) (subst (λ (y : Line). fits_list y (list_at s.lists i) ≡ true) e (v.fit_lists i)) in
           let some = slice_get-get_or (wishes s i) n 0 here in
-          absurd (let z : ◌≡◌ {A = ℕ} 0 1 = cc in omega arith)
+          cc
       go (Held l) e q = refl
       go Spent e q = refl
 

@@ -49,8 +49,5 @@ module _ (n : ℕ) (ls : Lists) (ws : List ℕ) (lot : ℕ) (rest : List ℕ) (a
   pub slip_unknown : 256 ≤ lot → entering n ls ws ≡ Err (fault Unknown 0)
   slip_unknown h = ap read apart ∙ ap known (le-leb 256 lot h)
 
-  pub slip_twice : lot < 256 → is_some (list_at ls lot) ≡ true → entering n ls ws ≡ Err (fault Twice 0)
-  slip_twice h e = ap read apart ∙ ap known (lt-leb 256 lot h) ∙ ap fresh e
-
   pub slip_read : lot < 256 → is_some (list_at ls lot) ≡ false → (r : Result (List ℕ) Fault) → wishes_from n [] 1 rest ≡ r → entering n ls ws ≡ elim r [ Err f ↦ Err f | Ok xs ↦ Ok (lot, xs) ]
   slip_read h e r q = ap read apart ∙ ap known (lt-leb 256 lot h) ∙ ap fresh e ∙ ap listing q

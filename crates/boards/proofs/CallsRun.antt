@@ -27,7 +27,7 @@ use Rattle.boards.proofs.FormedEnters.{entering_ok, begun_formed, begun_stands, 
 
 -- the lowest looking lot looks
 lowest_looks : (ys : List Line) (k i : ℕ) → lowest k ys ≡ Some i → (j : ℕ) × (i ≡ k + j) × (looks (get_or ys j Absent) ≡ true)
-lowest_looks [] k i e = absurd (let z : ◌≡◌ {A = ℕ} 0 1 = cc in omega arith)
+lowest_looks [] k i e = cc
 lowest_looks (y ∷ ys) k i e = go (λ q. lowest_looks ys (suc k) i q) (looks y) refl e
   where
     go : (lowest (suc k) ys ≡ Some i → (j : ℕ) × (i ≡ suc k + j) × (looks (get_or ys j Absent) ≡ true)) → (p : Bool) → looks y ≡ p → ◌≡◌ {A = Option ℕ} (elim p [ true ↦ Some k | false ↦ lowest (suc k) ys ]) (Some i) → (j : ℕ) × (i ≡ k + j) × (looks (get_or (y ∷ ys) j Absent) ≡ true)
@@ -42,7 +42,7 @@ lowest_none [] k e i = refl
 lowest_none (y ∷ ys) k e i = go (λ q. lowest_none ys (suc k) q) (looks y) refl e i
   where
     go : (lowest (suc k) ys ≡ None → (i : ℕ) → looks (get_or ys i Absent) ≡ false) → (p : Bool) → looks y ≡ p → ◌≡◌ {A = Option ℕ} (elim p [ true ↦ Some k | false ↦ lowest (suc k) ys ]) None → (i : ℕ) → looks (get_or (y ∷ ys) i Absent) ≡ false
-    go rest true q e i = absurd (let z : ◌≡◌ {A = ℕ} 0 1 = cc in omega arith)
+    go rest true q e i = cc
     go rest false q e zero = q
     go rest false q e (suc i) = rest e i
 

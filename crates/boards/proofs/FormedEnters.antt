@@ -40,21 +40,21 @@ pub entering_ok : (n : ℕ) (ls : Lists) (ws : List ℕ) (p : ℕ × List ℕ) �
 entering_ok n ls ws p = first (taken_apart ws)
   where
     fourth : (i : ℕ) → i < 256 → is_some (list_at ls i) ≡ false → (r : Result (List ℕ) Fault) → ((xs : List ℕ) → r ≡ Ok xs → Sound n xs) → ◌≡◌ {A = Result (ℕ × List ℕ) Fault} (elim r [ Err f ↦ Err f | Ok xs ↦ Ok (i, xs) ]) (Ok p) → Accepts n ls p.0 p.1
-    fourth i a b (Err f) v e = absurd (let z : ◌≡◌ {A = ℕ} 0 1 = cc in omega arith)
+    fourth i a b (Err f) v e = cc
     fourth i a b (Ok xs) v e =
         let same : (i, xs) ≡ p = cc in
         subst (λ (q : ℕ × List ℕ). Accepts n ls q.0 q.1) same (record { lot = a; fresh = b; lawful = v xs refl })
 
     third : (i : ℕ) (rest : List ℕ) → i < 256 → (q : Bool) → is_some (list_at ls i) ≡ q → ◌≡◌ {A = Result (ℕ × List ℕ) Fault} (elim q [ true ↦ Err (fault Twice 0) | false ↦ elim (wishes_from n [] 1 rest) [ Err f ↦ Err f | Ok xs ↦ Ok (i, xs) ] ]) (Ok p) → Accepts n ls p.0 p.1
-    third i rest a true b e = absurd (let z : ◌≡◌ {A = ℕ} 0 1 = cc in omega arith)
+    third i rest a true b e = cc
     third i rest a false b e = fourth i a b (wishes_from n [] 1 rest) (λ xs q. read_sound n rest xs q) e
 
     second : (i : ℕ) (rest : List ℕ) → (q : Bool) → leb 256 i ≡ q → ◌≡◌ {A = Result (ℕ × List ℕ) Fault} (elim q [ true ↦ Err (fault Unknown 0) | false ↦ elim (is_some (list_at ls i)) [ true ↦ Err (fault Twice 0) | false ↦ elim (wishes_from n [] 1 rest) [ Err f ↦ Err f | Ok xs ↦ Ok (i, xs) ] ] ]) (Ok p) → Accepts n ls p.0 p.1
-    second i rest true a e = absurd (let z : ◌≡◌ {A = ℕ} 0 1 = cc in omega arith)
+    second i rest true a e = cc
     second i rest false a e = third i rest (leb-false 256 i a) (is_some (list_at ls i)) refl e
 
     first : (r : Result (ℕ × List ℕ) Fault) → ◌≡◌ {A = Result (ℕ × List ℕ) Fault} (elim r [ Err f ↦ Err f | Ok q ↦ elim (leb 256 q.0) [ true ↦ Err (fault Unknown 0) | false ↦ elim (is_some (list_at ls q.0)) [ true ↦ Err (fault Twice 0) | false ↦ elim (wishes_from n [] 1 q.1) [ Err f ↦ Err f | Ok xs ↦ Ok (q.0, xs) ] ] ] ]) (Ok p) → Accepts n ls p.0 p.1
-    first (Err f) e = absurd (let z : ◌≡◌ {A = ℕ} 0 1 = cc in omega arith)
+    first (Err f) e = cc
     first (Ok q) e = second q.0 q.1 (leb 256 q.0) refl e
 
 -- a lot without a list is absent

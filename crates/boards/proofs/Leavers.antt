@@ -28,7 +28,7 @@ use Rattle.boards.proofs.CallsRun.{claim_known, same_pair}
 
 -- along a ranking
 pub beyond_some : (O : ℕ → Bool) (R : List ℕ) (k x : ℕ) → distinct R ≡ true → beyond k O R ≡ Some x → (O x ≡ true) × (best k O R x ≡ false) × (has R x ≡ true)
-beyond_some O [] k x d e = absurd (let z : ◌≡◌ {A = ℕ} 0 1 = cc in omega arith)
+beyond_some O [] k x d e = cc
 beyond_some O (r ∷ R) zero x d e = go (O r) refl e (λ q. beyond_some O R zero x (grind (arith, nat_tests)) q)
   where
     go : (p : Bool) → O r ≡ p → ◌≡◌ {A = Option ℕ} (elim p [ true ↦ Some r | false ↦ beyond zero O R ]) (Some x) → (beyond zero O R ≡ Some x → (O x ≡ true) × (best zero O R x ≡ false) × (has R x ≡ true)) → (O x ≡ true) × (best zero O (r ∷ R) x ≡ false) × (has (r ∷ R) x ≡ true)
@@ -72,7 +72,7 @@ beyond_none O (r ∷ R) (suc k) e z o h = go (O r) refl e (λ q. beyond_none O R
 
 -- the first of some answers
 pub first_some : (f : ℕ → Option ℕ) (k n x : ℕ) → first_of f k n ≡ Some x → (j : ℕ) × (k ≤ j) × (j < k + n) × (f j ≡ Some x)
-first_some f k zero x e = absurd (let z : ◌≡◌ {A = ℕ} 0 1 = cc in omega arith)
+first_some f k zero x e = cc
 first_some f k (suc n) x e = go (f k) refl e (λ q. first_some f (suc k) n x q)
   where
     go : (o : Option ℕ) → f k ≡ o → ◌≡◌ {A = Option ℕ} (elim o [ Some y ↦ Some y | None ↦ first_of f (suc k) n ]) (Some x) → (first_of f (suc k) n ≡ Some x → (j : ℕ) × (suc k ≤ j) × (j < suc k + n) × (f j ≡ Some x)) → (j : ℕ) × (k ≤ j) × (j < k + suc n) × (f j ≡ Some x)
@@ -84,7 +84,7 @@ first_none f k zero e j a b = absurd (omega arith)
 first_none f k (suc n) e j a b = go (f k) refl e (λ q h. first_none f (suc k) n q j h (omega arith))
   where
     go : (o : Option ℕ) → f k ≡ o → ◌≡◌ {A = Option ℕ} (elim o [ Some y ↦ Some y | None ↦ first_of f (suc k) n ]) None → (first_of f (suc k) n ≡ None → suc k ≤ j → f j ≡ None) → f j ≡ None
-    go (Some y) q e rest = absurd (let z : ◌≡◌ {A = ℕ} 0 1 = cc in omega arith)
+    go (Some y) q e rest = cc
     go None q e rest = elim (cases_eq j k) [ inl s ↦ ap f s ∙ q | inr s ↦ rest e (omega (arith, s)) ]
 
 pub first_same : (f g : ℕ → Option ℕ) (k n : ℕ) → ((j : ℕ) → k ≤ j → j < k + n → f j ≡ g j) → first_of f k n ≡ first_of g k n
@@ -95,7 +95,7 @@ first_same f g k (suc n) h =
 
 -- the lowest lot that leaves
 leaver_looks : (p : ℕ → ℕ → Bool) (ys : List Line) (k x : ℕ) → leaver p k ys ≡ Some x → (j : ℕ) × (x ≡ k + j) × (leaves (p (k + j)) (get_or ys j Absent) ≡ true)
-leaver_looks p [] k x e = absurd (let z : ◌≡◌ {A = ℕ} 0 1 = cc in omega arith)
+leaver_looks p [] k x e = cc
 leaver_looks p (y ∷ ys) k x e = go (leaves (p k) y) refl e (λ q. leaver_looks p ys (suc k) x q)
   where
     go : (b : Bool) → leaves (p k) y ≡ b → ◌≡◌ {A = Option ℕ} (elim b [ true ↦ Some k | false ↦ leaver p (suc k) ys ]) (Some x) → (leaver p (suc k) ys ≡ Some x → (j : ℕ) × (x ≡ suc k + j) × (leaves (p (suc k + j)) (get_or ys j Absent) ≡ true)) → (j : ℕ) × (x ≡ k + j) × (leaves (p (k + j)) (get_or (y ∷ ys) j Absent) ≡ true)
@@ -110,7 +110,7 @@ leaver_stays p [] k e j = refl
 leaver_stays p (y ∷ ys) k e j = go (leaves (p k) y) refl e (λ q. leaver_stays p ys (suc k) q) j
   where
     go : (b : Bool) → leaves (p k) y ≡ b → ◌≡◌ {A = Option ℕ} (elim b [ true ↦ Some k | false ↦ leaver p (suc k) ys ]) None → (leaver p (suc k) ys ≡ None → (j : ℕ) → leaves (p (suc k + j)) (get_or ys j Absent) ≡ false) → (j : ℕ) → leaves (p (k + j)) (get_or (y ∷ ys) j Absent) ≡ false
-    go true q e rest j = absurd (let z : ◌≡◌ {A = ℕ} 0 1 = cc in omega arith)
+    go true q e rest j = cc
     go false q e rest zero = subst (λ (z : ℕ). leaves (p z) y ≡ false) (let z : k ≡ k + 0 = omega arith in z) q
     go false q e rest (suc j) = subst (λ (z : ℕ). leaves (p z) (get_or ys j Absent) ≡ false) (let z : suc k + j ≡ k + suc j = omega arith in z) (rest e j)
 
@@ -261,7 +261,7 @@ module _ (m : Meaning) (law : Lawful m) (s : Board) (v : Formed s) (i n : ℕ) (
   found_leaves j x b q = go (ltb (at K j) (at X j)) q
     where
       go : (t : Bool) → ◌≡◌ {A = Option ℕ} (elim t [ true ↦ beyond (at K j) (O (first_lane c g + j)) (ranking_of c (first_lane c g + j)) | false ↦ None ]) (Some x) → leaves (p x) (get_or ys x Absent) ≡ true
-      go false q = absurd (let z : ◌≡◌ {A = ℕ} 0 1 = cc in omega arith)
+      go false q = cc
       go true q =
           let l : ℕ = first_lane c g + j in
           let stands = lane_stands c v.laid g j here b in

@@ -27,16 +27,16 @@ use Rattle.boards.proofs.FormedApplies.{looks_in, wish_in, free}
 use Rattle.boards.proofs.Leavers.{first_same, supplied_is, search_finds}
 
 nth_at : (xs : List ℕ) (n h : ℕ) → slice_get xs n ≡ Some h → at xs n ≡ h
-nth_at [] n h e = absurd (let z : ◌≡◌ {A = ℕ} 0 1 = cc in omega arith)
+nth_at [] n h e = cc
 nth_at (x ∷ xs) zero h e = cc
 nth_at (x ∷ xs) (suc n) h e = nth_at xs n h e
 
 -- a lot with a next wish looks at it
 pub wish_of : (y : Line) (xs : List ℕ) (h : ℕ) → next_wish y xs ≡ Some h → (n : ℕ) × (y ≡ Looking n) × (at xs n ≡ h)
-wish_of Absent xs h e = absurd (let z : ◌≡◌ {A = ℕ} 0 1 = cc in omega arith)
+wish_of Absent xs h e = cc
 wish_of (Looking n) xs h e = (n, refl, nth_at xs n h e)
-wish_of (Held l) xs h e = absurd (let z : ◌≡◌ {A = ℕ} 0 1 = cc in omega arith)
-wish_of Spent xs h e = absurd (let z : ◌≡◌ {A = ℕ} 0 1 = cc in omega arith)
+wish_of (Held l) xs h e = cc
+wish_of Spent xs h e = cc
 
 -- and the lane is in the book
 pub asked_known : (s : Board) → Formed s → (i h : ℕ) → next_wish (line_of s i) (wishes s i) ≡ Some h → h < length s.book.lanes

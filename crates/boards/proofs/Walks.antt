@@ -3,22 +3,23 @@ use Rattle.std.proofs.Common.{◌≡◌, ℕ, suc, ◌+◌, ◌<◌, ◌≤◌, 
 use Rattle.std.proofs.lemmas.List.{at_drop_more, length_push}
 use Rattle.std.proofs.lemmas.Bool.{leb-false}
 use Rattle.sheets.specs.declared.fault.Fault.{Fault}
-use Rattle.sheets.specs.declared.fault.Refusal.TheVariants.{Strange, Misplaced, TooMany, Unknown, Twice}
+use Rattle.sheets.specs.declared.fault.Refusal.{Refusal}
+use Rattle.sheets.specs.declared.fault.Refusal.TheVariants.{Strange, TooMany, Unknown, Twice}
 use Rattle.sheets.specs.declared.word.SlipWord.{SlipWord}
 use Rattle.sheets.specs.declared.word.SlipWord.TheVariants.{Lot, Wish}
-use Rattle.sheets.specs.Faults.{fault}
+use Rattle.sheets.specs.Faults.{fault, located}
 use Rattle.sheets.specs.Words.{slip_word}
 use Rattle.books.specs.Lanes.{has, distinct, all_below}
 use Rattle.books.proofs.Distinct.{distinct_push, below_push}
 use Rattle.boards.specs.Reading.{Pushed}
-use Rattle.boards.specs.Slips.{wished, wishes_from}
+use Rattle.boards.specs.Slips.{wish_more, wished, wishes_from}
 
 -- what was left says what the definition gives
-pub accepted_pushed : (t : Result (List ℕ) Fault) (xs : List ℕ) → Pushed t (Ok tt) xs → t ≡ Ok xs
+pub accepted_pushed : {E : Type 0} (t : Result (List ℕ) E) (xs : List ℕ) → Pushed t (Ok tt) xs → t ≡ Ok xs
 accepted_pushed (Ok ys) xs p = ap Ok (sym p.1)
 accepted_pushed (Err f) xs p = cc
 
-pub refused_pushed : (t : Result (List ℕ) Fault) (f : Fault) (xs : List ℕ) → Pushed t (Err f) xs → t ≡ Err f
+pub refused_pushed : {E : Type 0} (t : Result (List ℕ) E) (f : E) (xs : List ℕ) → Pushed t (Err f) xs → t ≡ Err f
 refused_pushed (Ok ys) f xs p = let e = p.0 in cc
 refused_pushed (Err g) f xs p = cc
 
@@ -32,38 +33,28 @@ pub record Accepted (n : ℕ) (xs ys : List ℕ) : Type 0 where
 
 tests : {A E : Type 0} (a b c : Bool) (e f g : E) (x s : A) →
     ◌≡◌ {A = Result A E} (elim a [ true ↦ Err e | false ↦ elim b [ true ↦ Err f | false ↦ elim c [ true ↦ Err g | false ↦ Ok x ] ] ]) (Ok s) → (a ≡ false) × (b ≡ false) × (c ≡ false) × (s ≡ x)
-tests true b c e f g x s h = let z : ◌≡◌ {A = ℕ} 0 1 = cc in absurd (omega arith)
-tests false true c e f g x s h = let z : ◌≡◌ {A = ℕ} 0 1 = cc in absurd (omega arith)
-tests false false true e f g x s h = let z : ◌≡◌ {A = ℕ} 0 1 = cc in absurd (omega arith)
+tests true b c e f g x s h = cc
+tests false true c e f g x s h = cc
+tests false false true e f g x s h = cc
 tests false false false e f g x s h = (refl, refl, refl, cc)
 
--- the same by what the word is
-abbrev judged : ℕ → List ℕ → ℕ → Option SlipWord → Result (List ℕ) Fault
-judged n xs place o =
-    elim o [
-      | None ↦ Err (fault Strange place)
-      | Some (Lot lot) ↦ Err (fault Misplaced place)
-      | Some (Wish lane) ↦
-          elim (leb 12 (length xs)) [
-            | true ↦ Err (fault TooMany place)
-            | false ↦
-                elim (leb n lane) [
-                  | true ↦ Err (fault Unknown place)
-                  | false ↦
-                      elim (has xs lane) [ true ↦ Err (fault Twice place) | false ↦ Ok (xs ++ lane ∷ []) ]
-                ]
-          ]
-    ]
-
-judged_accepted : (n : ℕ) (xs : List ℕ) (place : ℕ) (o : Option SlipWord) (ys : List ℕ) → judged n xs place o ≡ Ok ys → Accepted n xs ys
-judged_accepted n xs place None ys e = let z : ◌≡◌ {A = ℕ} 0 1 = cc in absurd (omega arith)
-judged_accepted n xs place (Some (Lot lot)) ys e = let z : ◌≡◌ {A = ℕ} 0 1 = cc in absurd (omega arith)
-judged_accepted n xs place (Some (Wish l)) ys e =
-    let t = tests (leb 12 (length xs)) (leb n l) (has xs l) (fault TooMany place) (fault Unknown place) (fault Twice place) (xs ++ l ∷ []) ys e in
+wish_accepted : (n : ℕ) (xs : List ℕ) (w : SlipWord) (ys : List ℕ) → wish_more n xs w ≡ Ok ys → Accepted n xs ys
+wish_accepted n xs (Lot lot) ys e = cc
+wish_accepted n xs (Wish l) ys e =
+    let t = tests (leb 12 (length xs)) (leb n l) (has xs l) TooMany Unknown Twice (xs ++ l ∷ []) ys e in
     record { lane = l; longer = t.3; room = leb-false 12 (length xs) t.0; known = leb-false n l t.1; fresh = t.2 }
 
+-- an answer at its place is accepted as it is
+located_ok : {A : Type 0} (place : ℕ) (r : Result A Refusal) (x : A) → located place r ≡ Ok x → r ≡ Ok x
+located_ok place (Ok y) x e = cc
+located_ok place (Err q) x e = cc
+
 pub wished_accepted : (n : ℕ) (xs : List ℕ) (place w : ℕ) (ys : List ℕ) → wished n xs place w ≡ Ok ys → Accepted n xs ys
-wished_accepted n xs place w ys e = judged_accepted n xs place (slip_word w) ys e
+wished_accepted n xs place w ys e = go (slip_word w) e
+  where
+    go : (o : Option SlipWord) → ◌≡◌ {A = Result (List ℕ) Fault} (elim o [ None ↦ Err (fault Strange place) | Some s ↦ located place (wish_more n xs s) ]) (Ok ys) → Accepted n xs ys
+    go None h = cc
+    go (Some s) h = wish_accepted n xs s ys (located_ok place (wish_more n xs s) ys h)
 
 pub accepted_length : (n : ℕ) (xs ys : List ℕ) → Accepted n xs ys → length ys ≡ length xs + 1
 accepted_length n xs ys a = ap length a.longer ∙ length_push xs a.lane
@@ -98,7 +89,7 @@ pub wishes_sound : (n : ℕ) (xs : List ℕ) (place : ℕ) (ws ys : List ℕ) �
 wishes_sound n xs place [] ys s e = let same : xs ≡ ys = cc in subst (Sound n) same s
 wishes_sound n xs place (w ∷ ws) ys s e =
     (elim (wished n xs place w) as (λ t. wished n xs place w ≡ t → onward n place ws t ≡ Ok ys → Sound n ys) [
-      | Err f ↦ λ t g. let z : ◌≡◌ {A = ℕ} 0 1 = cc in absurd (omega arith)
+      | Err f ↦ λ t g. cc
       | Ok zs ↦ λ t g. wishes_sound n zs (suc place) ws ys (sound_more n xs zs s (wished_accepted n xs place w zs t)) g
     ]) refl e
 

@@ -10,6 +10,6 @@ listed (Ok w) = Ok (list_of w)
 listed (Err f) = Err f
 
 -- a list with one wish more, or a refusal
-abbrev pub Pushed : Result (List ℕ) Fault → Result (Unit {0}) Fault → List ℕ → Type 0
+abbrev pub Pushed : {E : Type 0} → Result (List ℕ) E → Result (Unit {0}) E → List ℕ → Type 0
 Pushed (Ok xs) answer after = (answer ≡ Ok tt) × (after ≡ xs)
 Pushed (Err f) answer after = answer ≡ Err f

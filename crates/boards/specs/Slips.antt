@@ -1,10 +1,12 @@
 -- A slip as a round reads it.
-use Rattle.std.specs.Prelude.{ℕ, suc, true, false, List, [], ◌∷◌, ◌++◌, map, length, take, is_some, Some, None, Ok, Err, Option, Result, nat_le, slice_index_or}
+use Rattle.std.specs.Prelude.{ℕ, suc, true, false, List, [], ◌∷◌, ◌++◌, map, length, is_some, Some, None, Ok, Err, Option, Result, nat_le, slice_index_or}
 use Rattle.std.specs.Option.{option_map}
 use Rattle.sheets.specs.declared.fault.Fault.{Fault}
+use Rattle.sheets.specs.declared.fault.Refusal.{Refusal}
 use Rattle.sheets.specs.declared.fault.Refusal.TheVariants.{Strange, Misplaced, TooMany, Unknown, Twice}
+use Rattle.sheets.specs.declared.word.SlipWord.{SlipWord}
 use Rattle.sheets.specs.declared.word.SlipWord.TheVariants.{Lot, Wish}
-use Rattle.sheets.specs.Faults.{fault}
+use Rattle.sheets.specs.Faults.{fault, located}
 use Rattle.sheets.specs.Words.{slip_word}
 use Rattle.sheets.specs.Slips.{taken_apart}
 use Rattle.books.specs.Lanes.{has}
@@ -12,24 +14,28 @@ use Rattle.boards.specs.declared.wishes.Wishes.{Wishes}
 
 -- the lanes on a list
 abbrev pub list_of : Wishes → List ℕ
-list_of w = take w.count w.lanes
+list_of w = w.lanes.items
 
--- one word behind the LOT word, in a book of n lanes, where the list so far is xs: the list with it, or the refusal
+-- a word behind the LOT word, in a book of n lanes, where the list so far is xs: the list with its lane, or the refusal
+abbrev pub wish_more : ℕ → List ℕ → SlipWord → Result (List ℕ) Refusal
+wish_more n xs (Lot lot) = Err Misplaced
+wish_more n xs (Wish lane) =
+    elim (nat_le 12 (length xs)) [
+      | true ↦ Err TooMany
+      | false ↦
+          elim (nat_le n lane) [
+            | true ↦ Err Unknown
+            | false ↦
+                elim (has xs lane) [ true ↦ Err Twice | false ↦ Ok (xs ++ lane ∷ []) ]
+          ]
+    ]
+
+-- the same of a word at its place
 abbrev pub wished : ℕ → List ℕ → ℕ → ℕ → Result (List ℕ) Fault
 wished n xs place w =
     elim (slip_word w) [
       | None ↦ Err (fault Strange place)
-      | Some (Lot lot) ↦ Err (fault Misplaced place)
-      | Some (Wish lane) ↦
-          elim (nat_le 12 (length xs)) [
-            | true ↦ Err (fault TooMany place)
-            | false ↦
-                elim (nat_le n lane) [
-                  | true ↦ Err (fault Unknown place)
-                  | false ↦
-                      elim (has xs lane) [ true ↦ Err (fault Twice place) | false ↦ Ok (xs ++ lane ∷ []) ]
-                ]
-          ]
+      | Some s ↦ located place (wish_more n xs s)
     ]
 
 -- the words behind the LOT word in order, from a place on

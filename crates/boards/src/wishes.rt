@@ -1,13 +1,16 @@
-ghost use Rattle.std.specs.Prelude.{◌≡◌, ◌≤◌, length};
+ghost use Rattle.std.specs.Prelude.{◌≤◌, length};
+
+use rows::row::Row;
 
 pub mod list;
 pub mod read;
 
-// A lot's list: the lanes that it wants, the most wanted first. Behind the count nothing counts.
+// A list has room for so many wishes.
+pub const MOST_WISHES: usize = 12;
+
+// A lot's list: the lanes that it wants, the most wanted first.
 #[derive(Clone, Copy)]
 pub struct Wishes {
-    lanes: [u8; 12],
-    count: u8,
-    ghost twelve: { length lanes ≡ 12 },
-    ghost few: { count ≤ 12 },
+    lanes: Row<u8, MOST_WISHES>,
+    ghost few: { length lanes.items ≤ 12 },
 }

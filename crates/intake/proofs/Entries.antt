@@ -1,21 +1,21 @@
 -- Slips that are entered, one at a time.
-use Rattle.std.proofs.Common.{◌≡◌, ℕ, suc, ◌+◌, ◌≤◌, Bool, true, false, leb, List, [], ◌∷◌, ◌++◌, map, length, drop, is_some, Some, None, Ok, Err, Option, Result, sym, refl, ap, ◌∙◌, subst, arith}
+use Rattle.std.proofs.Common.{◌≡◌, ℕ, suc, ◌+◌, ◌≤◌, Bool, true, false, leb, List, [], ◌∷◌, map, length, drop, is_some, Some, None, Ok, Err, Option, Result, sym, refl, ap, ◌∙◌, subst, arith}
 use Rattle.std.proofs.lemmas.List.{drop-drop}
 use Rattle.sheets.specs.declared.fault.Fault.{Fault}
-use Rattle.sheets.specs.declared.fault.Refusal.TheVariants.{Strange, Misplaced, TooMany, Unknown, Twice}
+use Rattle.sheets.specs.declared.fault.Refusal.{Refusal}
+use Rattle.sheets.specs.declared.fault.Refusal.TheVariants.{Strange, Misplaced, Unknown, Twice}
 use Rattle.sheets.specs.declared.word.SlipWord.{SlipWord}
 use Rattle.sheets.specs.declared.word.SlipWord.TheVariants.{Lot, Wish}
-use Rattle.sheets.specs.Faults.{fault}
+use Rattle.sheets.specs.Faults.{fault, located}
 use Rattle.sheets.specs.Records.{Page}
 use Rattle.sheets.specs.Slips.{taken_apart}
 use Rattle.sheets.specs.Words.{slip_word}
 use Rattle.sharing.specs.Rules.{Meaning}
 use Rattle.books.specs.Contents.{Contents}
-use Rattle.books.specs.Lanes.{has}
 use Rattle.books.specs.Opening.{opening, left}
 use Rattle.boards.specs.Boards.{Board, begun, slip_of, entered, enter, lot_of}
 use Rattle.boards.specs.Calls.{enters, calls, after, Reached, EveryRun}
-use Rattle.boards.specs.Slips.{Lists, list_at, wished, wishes_from, entering}
+use Rattle.boards.specs.Slips.{Lists, list_at, wish_more, wished, wishes_from, entering}
 use Rattle.days.specs.Input.{Day, day_of, book_in}
 use Rattle.intake.specs.Slips.{cut, in_day_at, enter_all, EntersSlips}
 use Rattle.intake.proofs.Cuts.{Next}
@@ -25,29 +25,16 @@ abbrev Within : {A : Type 0} → ℕ → Result A Fault → Type 0
 Within n (Ok a) = Unit {0}
 Within n (Err f) = f.place ≤ n
 
+located_within : {A : Type 0} (place : ℕ) (r : Result A Refusal) → Within place (located place r)
+located_within place (Ok a) = tt
+located_within place (Err x) = omega arith
+
 wished_within : (n : ℕ) (xs : List ℕ) (place w : ℕ) → Within place (wished n xs place w)
 wished_within n xs place w = word (slip_word w)
   where
-    new : (lane : ℕ) (b : Bool) → Within {A = List ℕ} place (elim b [ true ↦ Err (fault Twice place) | false ↦ Ok (xs ++ lane ∷ []) ])
-    new lane true = omega arith
-    new lane false = tt
-
-    known : (lane : ℕ) (b : Bool) → Within {A = List ℕ} place (elim b [ true ↦ Err (fault Unknown place) | false ↦ elim (has xs lane) [ true ↦ Err (fault Twice place) | false ↦ Ok (xs ++ lane ∷ []) ] ])
-    known lane true = omega arith
-    known lane false = new lane (has xs lane)
-
-    few : (lane : ℕ) (b : Bool) → Within {A = List ℕ} place (elim b [ true ↦ Err (fault TooMany place) | false ↦ elim (leb n lane) [ true ↦ Err (fault Unknown place) | false ↦ elim (has xs lane) [ true ↦ Err (fault Twice place) | false ↦ Ok (xs ++ lane ∷ []) ] ] ])
-    few lane true = omega arith
-    few lane false = known lane (leb n lane)
-
-    word : (o : Option SlipWord) → Within {A = List ℕ} place (elim o [
-      | None ↦ Err (fault Strange place)
-      | Some (Lot lot) ↦ Err (fault Misplaced place)
-      | Some (Wish lane) ↦ elim (leb 12 (length xs)) [ true ↦ Err (fault TooMany place) | false ↦ elim (leb n lane) [ true ↦ Err (fault Unknown place) | false ↦ elim (has xs lane) [ true ↦ Err (fault Twice place) | false ↦ Ok (xs ++ lane ∷ []) ] ] ]
-    ])
+    word : (o : Option SlipWord) → Within {A = List ℕ} place (elim o [ None ↦ Err (fault Strange place) | Some s ↦ located place (wish_more n xs s) ])
     word None = omega arith
-    word (Some (Lot lot)) = omega arith
-    word (Some (Wish lane)) = few lane (leb 12 (length xs))
+    word (Some s) = located_within place (wish_more n xs s)
 
 wishes_within : (n : ℕ) (xs : List ℕ) (place : ℕ) (ws : List ℕ) → Within (place + length ws) (wishes_from n xs place ws)
 wishes_within n xs place [] = tt

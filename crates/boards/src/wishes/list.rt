@@ -1,4 +1,4 @@
-ghost use Rattle.std.specs.Prelude.{◌≡◌, ◌<◌, [], ◌∷◌, ◌++◌, length};
+ghost use Rattle.std.specs.Prelude.{◌≡◌, [], length};
 ghost use Rattle.std.specs.List.{slice_get};
 ghost use Rattle.books.specs.Lanes.{has};
 ghost use Rattle.boards.specs.Lines.{place, next};
@@ -6,66 +6,52 @@ ghost use Rattle.boards.specs.Slips.{list_of};
 
 use crate::line::Line;
 use crate::wishes::Wishes;
+use rows::row::Row;
 
 impl Wishes {
     // A list without a wish.
     pub fn new() -> Wishes
         ensures { list_of result ≡ [] }
     {
-        Wishes {
-            lanes: [0; 12],
-            count: 0,
-        }
+        Wishes { lanes: Row::new(0) }
     }
 
-    // One wish more, the least wanted so far.
-    pub(crate) fn push(&mut self, lane: u8)
-        requires { length (list_of self.old) < 12 }
-        ensures { list_of self.new ≡ list_of self.old ++ lane ∷ [] }
-    {
-        let at = self.count;
-        self.lanes[at as usize] = lane;
-        self.count = at + 1;
-    }
-
-    // The wishes.
-    fn wanted(&self) -> &[u8]
+    // The lanes, the most wanted first.
+    pub fn lanes(&self) -> &[u8]
         ensures { result.now ≡ list_of self.now }
     {
-        &self.lanes[0..self.count as usize]
+        &self.lanes
     }
 
     // How many wishes the list has.
     pub fn len(&self) -> usize
         ensures { result ≡ length (list_of self.now) }
     {
-        self.wanted().len()
+        self.lanes.len()
     }
 
     // The lane at a place of the list, the most wanted at 0; none behind the last.
     pub fn get(&self, place: usize) -> Option<u8>
         ensures { result ≡ slice_get (list_of self.now) place }
     {
-        self.wanted().get(place).copied()
+        self.lanes.get(place).copied()
     }
 
     // Is the lane on the list?
     pub fn has(&self, lane: u8) -> bool
         ensures { result ≡ has (list_of self.now) lane }
     {
-        self.wanted().contains(&lane)
+        self.lanes.contains(&lane)
     }
 
     // The place of a lane on the list; the length where it is not there.
     pub(crate) fn place_of(&self, lane: u8) -> usize
         ensures { result ≡ place (list_of self.now) lane }
     {
-        for (place, wish) in self.wanted().iter().enumerate() {
-            if *wish == lane {
-                return place;
-            }
-        }
-        self.len()
+        self.lanes
+            .iter()
+            .position(|wish| *wish == lane)
+            .unwrap_or(self.len())
     }
 
     // The line of a lot that has applied to so many wishes in vain.

@@ -1,52 +1,50 @@
-ghost use Rattle.std.specs.Prelude.{◌≡◌, ◌≤◌, [], length};
+ghost use Rattle.std.specs.Prelude.{◌≡◌, [], length};
 ghost use Rattle.books.specs.Contents.{contents};
-ghost use Rattle.boards.specs.Slips.{list_of, wished, wishes_from};
+ghost use Rattle.boards.specs.Slips.{list_of, wish_more, wished, wishes_from};
 ghost use Rattle.boards.specs.Reading.{listed, Pushed};
 
-use crate::wishes::Wishes;
+use crate::wishes::{MOST_WISHES, Wishes};
 use books::book::Book;
 use sheets::fault::{Fault, Refusal};
 use sheets::word::{SlipWord, Word};
 
 impl Wishes {
-    // One word behind the LOT word, in a book of so many lanes.
-    fn read_wish(&mut self, word: u32, place: usize, lanes: usize) -> Result<(), Fault>
-        requires { lanes ≤ 32 }
-        ensures { Pushed (wished lanes (list_of self.old) place word) result (list_of self.new) }
+    // Takes the lane of a word as one wish more, for a book. Of the word's faults the first in this order is told.
+    fn wish(&mut self, word: SlipWord, book: &Book) -> Result<(), Refusal>
+        ensures { Pushed (wish_more (length (contents book.now).lanes) (list_of self.old) word) result (list_of self.new) }
     {
-        let SlipWord::Wish { lane } = SlipWord::read(word, place)? else {
-            return Err(Fault::new(Refusal::Misplaced, place));
+        let SlipWord::Wish { lane } = word else {
+            return Err(Refusal::Misplaced);
         };
-        if self.len() >= 12 {
-            return Err(Fault::new(Refusal::TooMany, place));
+        if self.len() >= MOST_WISHES {
+            return Err(Refusal::TooMany);
         }
-        if lane as usize >= lanes {
-            return Err(Fault::new(Refusal::Unknown, place));
+        if lane as usize >= book.lane_count() {
+            return Err(Refusal::Unknown);
         }
         let lane = lane as u8;
         if self.has(lane) {
-            return Err(Fault::new(Refusal::Twice, place));
+            return Err(Refusal::Twice);
         }
-        self.push(lane);
-        Ok(())
+        self.lanes.push(lane).map_err(|_| Refusal::TooMany)
+    }
+
+    // One word behind the LOT word, at its place on the slip.
+    fn read_wish(&mut self, word: u32, place: usize, book: &Book) -> Result<(), Fault>
+        ensures { Pushed (wished (length (contents book.now).lanes) (list_of self.old) place word) result (list_of self.new) }
+    {
+        let word = SlipWord::read(word, place)?;
+        self.wish(word, book)
+            .map_err(|refusal| Fault::new(refusal, place))
     }
 
     // The words behind the LOT word of a slip, for a book.
     pub fn read(words: &[u32], book: &Book) -> Result<Wishes, Fault>
         ensures { listed result ≡ wishes_from (length (contents book.now).lanes) [] 1 words.now }
     {
-        Wishes::read_words(words, book.lane_count())
-    }
-
-    // The same in a book of so many lanes.
-    fn read_words(words: &[u32], lanes: usize) -> Result<Wishes, Fault>
-        requires { lanes ≤ 32 }
-        ensures { listed result ≡ wishes_from lanes [] 1 words.now }
-    {
         let mut wishes = Wishes::new();
-        for word in words {
-            let place = wishes.len() + 1;
-            wishes.read_wish(*word, place, lanes)?;
+        for (index, word) in words.iter().enumerate() {
+            wishes.read_wish(*word, index + 1, book)?;
         }
         Ok(wishes)
     }

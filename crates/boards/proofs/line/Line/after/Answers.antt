@@ -4,7 +4,7 @@ use Rattle.sharing.specs.Rules.{at}
 use Rattle.boards.specs.declared.line.Line.TheVariants.{Held}
 use Rattle.boards.specs.Lines.{noted}
 use Rattle.boards.specs.Slips.{list_of}
-use Rattle.boards.proofs.Wanted.{list_length, place_within}
+use Rattle.boards.proofs.Wanted.{place_within}
 use Rattle.boards.proofs.line.Line.after.Goals as goal
 
 nth_or : (xs : List ℕ) (i : ℕ) → unwrap_or (slice_get xs i) 0 ≡ at xs i
@@ -15,7 +15,7 @@ nth_or (x ∷ xs) (suc i) = nth_or xs i
 pub overflow_add-place_of : goal.overflow_add-place_of
 overflow_add-place_of c =
     let w = c.args.list.now in
-    omega (arith, c.place_of.ensures, place_within (list_of w) c.in-Held-Dropped.lane, list_length w, w.few)
+    omega (arith, c.place_of.ensures, place_within (list_of w) c.in-Held-Dropped.lane, w.few)
 
 pub returns-in-Looking-Taken : goal.returns-in-Looking-Taken
 returns-in-Looking-Taken c =
