@@ -26,10 +26,16 @@ pub place_lt : (xs : List ℕ) (l : ℕ) → has xs l ≡ true → place xs l < 
 place_lt [] l e = absurd (grind (arith, nat_tests))
 place_lt (x ∷ xs) l e = let t = place_lt xs l in grind (arith, nat_tests)
 
-place_yes : (x : ℕ) (xs : List ℕ) (l : ℕ) → eqb x l ≡ true → place (x ∷ xs) l ≡ 0
+pub place_within : (xs : List ℕ) (l : ℕ) → place xs l ≤ length xs
+place_within [] l = omega arith
+place_within (x ∷ xs) l =
+    let rest = place_within xs l in
+    elim (eqb x l) as (λ b. elim b [ true ↦ 0 | false ↦ suc (place xs l) ] ≤ suc (length xs)) [ true ↦ omega arith | false ↦ omega arith ]
+
+pub place_yes : (x : ℕ) (xs : List ℕ) (l : ℕ) → eqb x l ≡ true → place (x ∷ xs) l ≡ 0
 place_yes x xs l e = ap (λ (z : Bool). elim z [ true ↦ 0 | false ↦ suc (place xs l) ]) e
 
-place_no : (x : ℕ) (xs : List ℕ) (l : ℕ) → eqb x l ≡ false → place (x ∷ xs) l ≡ suc (place xs l)
+pub place_no : (x : ℕ) (xs : List ℕ) (l : ℕ) → eqb x l ≡ false → place (x ∷ xs) l ≡ suc (place xs l)
 place_no x xs l e = ap (λ (z : Bool). elim z [ true ↦ 0 | false ↦ suc (place xs l) ]) e
 
 pub place_at : (xs : List ℕ) (l : ℕ) → has xs l ≡ true → at xs (place xs l) ≡ l

@@ -1,5 +1,6 @@
 -- The lists in a table, and a slip step by step.
 use Rattle.std.proofs.Common.{◌≡◌, ℕ, zero, suc, ◌<◌, ◌≤◌, Bool, true, false, leb, List, [], ◌∷◌, get_or, replicate, is_some, Some, None, Ok, Err, Option, Result, unwrap_or, refl, ap, ◌∙◌}
+use Rattle.std.proofs.Math.ListN.{get_or-map}
 use Rattle.std.specs.Option.{option_map}
 use Rattle.std.proofs.lemmas.Bool.{le-leb, lt-leb}
 use Rattle.sheets.specs.declared.fault.Fault.{Fault}
@@ -11,9 +12,7 @@ use Rattle.boards.specs.Lines.{wishes_of}
 use Rattle.boards.specs.Slips.{list_of, lists_of, Lists, list_at, wishes_from, entering}
 
 pub lists_at : (os : List (Option Wishes)) (i : ℕ) → list_at (lists_of os) i ≡ option_map list_of (get_or os i None)
-lists_at [] i = refl
-lists_at (o ∷ os) zero = refl
-lists_at (o ∷ os) (suc i) = lists_at os i
+lists_at os i = get_or-map (option_map list_of) os i None
 
 pub lists_none : (n : ℕ) → lists_of (replicate n None) ≡ replicate n None
 lists_none zero = refl

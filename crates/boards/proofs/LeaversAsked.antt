@@ -1,9 +1,9 @@
 -- A lot that asks a lane, and what the code learns of the lane.
-use Rattle.std.proofs.Common.{◌≡◌, ℕ, zero, suc, ◌+◌, ◌<◌, ◌≤◌, Bool, true, false, ltb, List, [], ◌∷◌, length, set, Some, None, Option, sym, refl, ap, ◌∙◌, subst, inl, inr, arith}
+use Rattle.std.proofs.Common.{◌≡◌, ℕ, ◌+◌, ◌<◌, ◌≤◌, Bool, true, false, ltb, List, length, set, Some, None, Option, sym, refl, ap, ◌∙◌, subst, inl, inr, arith}
 use Rattle.std.specs.List.{slice_get}
 use Rattle.std.specs.Option.{option_map}
 use Rattle.std.proofs.lemmas.List.{get_or_past}
-use Rattle.std.proofs.lemmas.Option.{slice_get-get_or}
+use Rattle.std.proofs.lemmas.Option.{slice_get-get_or, get_or_from_slice_get}
 use Rattle.std.proofs.lemmas.List.FromFn.{get_or-map-range_with_len, length-map-range_with_len}
 use Rattle.std.proofs.lemmas.List.Sums.{count_by-le-length}
 use Rattle.std.proofs.lemmas.Bool.{cases_lt, ltb-true}
@@ -26,15 +26,10 @@ use Rattle.boards.specs.Searches.{supplied, beyond, first_of, beyond_at, next_wi
 use Rattle.boards.proofs.FormedApplies.{looks_in, wish_in, free}
 use Rattle.boards.proofs.Leavers.{first_same, supplied_is, search_finds}
 
-nth_at : (xs : List ℕ) (n h : ℕ) → slice_get xs n ≡ Some h → at xs n ≡ h
-nth_at [] n h e = cc
-nth_at (x ∷ xs) zero h e = cc
-nth_at (x ∷ xs) (suc n) h e = nth_at xs n h e
-
 -- a lot with a next wish looks at it
 pub wish_of : (y : Line) (xs : List ℕ) (h : ℕ) → next_wish y xs ≡ Some h → (n : ℕ) × (y ≡ Looking n) × (at xs n ≡ h)
 wish_of Absent xs h e = cc
-wish_of (Looking n) xs h e = (n, refl, nth_at xs n h e)
+wish_of (Looking n) xs h e = (n, refl, get_or_from_slice_get xs n h 0 e)
 wish_of (Held l) xs h e = cc
 wish_of Spent xs h e = cc
 
@@ -46,8 +41,6 @@ asked_known s v i h e =
     subst (λ (z : ℕ). z < length s.book.lanes) w.2 (below_at (length s.book.lanes) (wishes s i) (v.known i) w.0 room)
 
 -- what the book says of a lane that it has
-none_some : {A : Type 0} (o : Option A) (a : A) → o ≡ Some a → o ≡ None → ⊥
-none_some o a p q = let z : ◌≡◌ {A = ℕ} 0 1 = cc in omega arith
 
 module _ {B : Type 0} (c : Contents) (h : ℕ) (known : h < length c.lanes) (f : Entry → B) (r : Option B) (says : r ≡ option_map f (slice_get c.lanes h)) where
   told : r ≡ Some (f (lane_of c h))
@@ -57,14 +50,14 @@ module _ {B : Type 0} (c : Contents) (h : ℕ) (known : h < length c.lanes) (f :
   lane_says x e = let t = told in cc
 
   pub lane_there : r ≡ None → ⊥
-  lane_there e = none_some r (f (lane_of c h)) told e
+  lane_there e = cc told
 
 module _ (c : Contents) (g : ℕ) (known : g < length c.sheds) (r : Option Card) (says : option_map terms r ≡ slice_get c.sheds g) where
   pub card_says : (d : Card) → r ≡ Some d → terms d ≡ shed_of c g
   card_says d e = let t : Some (terms d) ≡ Some (shed_of c g) = sym (ap (option_map terms) e) ∙ says ∙ slice_get-get_or c.sheds g no_shed known in cc
 
   pub card_there : r ≡ None → ⊥
-  card_there e = none_some (option_map terms r) (shed_of c g) (says ∙ slice_get-get_or c.sheds g no_shed known) (ap (option_map terms) e)
+  card_there e = let there = says ∙ slice_get-get_or c.sheds g no_shed known in let none = ap (option_map terms) e in cc
 
 -- no lane holds more lots than there are lines
 pub filling_few : (c : Contents) (ys : List Line) (g k : ℕ) → at (filling c ys g) k ≤ length ys

@@ -13,4 +13,3 @@ pub mod Searching
 pub mod Seats
 pub mod SettlesAll
 pub mod Walks
-pub mod Wanted

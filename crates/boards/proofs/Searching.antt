@@ -3,7 +3,7 @@ use Rattle.std.proofs.Common.{◌≡◌, ℕ, zero, suc, ◌+◌, ◌-◌, ◌<�
 use Rattle.std.specs.List.{slice_get}
 use Rattle.std.specs.Option.{option_map}
 use Rattle.std.proofs.lemmas.List.{get_or_past, at_drop_more, at_drop_all}
-use Rattle.std.proofs.lemmas.Option.{slice_get-get_or as nth-getD, slice_get_past as nth_past}
+use Rattle.std.proofs.lemmas.Option.{slice_get-get_or, slice_get_past, slice_get_within, get_or_from_slice_get}
 use Rattle.std.proofs.lemmas.Bool.{cases_lt}
 use Rattle.books.specs.Lanes.{Entry}
 use Rattle.books.specs.Contents.{Contents, no_entry, ranking_of}
@@ -11,16 +11,12 @@ use Rattle.boards.specs.Searches.{beyond, first_of}
 
 -- what stands at a place, and that the place is there
 pub nth_some : (xs : List ℕ) (i x : ℕ) → slice_get xs i ≡ Some x → (i < length xs) × (get_or xs i 0 ≡ x)
-nth_some xs i x e =
-    elim (cases_lt i (length xs)) [
-      | inl inside ↦ (inside, let is = nth-getD xs i 0 inside in let same : get_or xs i 0 ≡ x = cc in same)
-      | inr past ↦ absurd (let is = nth_past xs i past in let z : ◌≡◌ {A = ℕ} 0 1 = cc in omega arith)
-    ]
+nth_some xs i x e = (slice_get_within xs i x e, get_or_from_slice_get xs i x 0 e)
 
 pub nth_none : (xs : List ℕ) (i : ℕ) → slice_get xs i ≡ None → length xs ≤ i
 nth_none xs i e =
     elim (cases_lt i (length xs)) [
-      | inl inside ↦ absurd (let is = nth-getD xs i 0 inside in let z : ◌≡◌ {A = ℕ} 0 1 = cc in omega arith)
+      | inl inside ↦ cc (slice_get-get_or xs i 0 inside)
       | inr past ↦ past
     ]
 
@@ -28,8 +24,8 @@ nth_none xs i e =
 pub ranked_all : (c : Contents) (l : ℕ) → unwrap_or (option_map (λ (e : Entry). length e.ranking) (slice_get c.lanes l)) 0 ≡ length (ranking_of c l)
 ranked_all c l =
     elim (cases_lt l (length c.lanes)) [
-      | inl inside ↦ ap (λ o. unwrap_or (option_map (λ (e : Entry). length e.ranking) o) 0) (nth-getD c.lanes l no_entry inside)
-      | inr past ↦ ap (λ o. unwrap_or (option_map (λ (e : Entry). length e.ranking) o) 0) (nth_past c.lanes l past) ∙ sym (ap (λ (e : Entry). length e.ranking) (get_or_past c.lanes l no_entry past))
+      | inl inside ↦ ap (λ o. unwrap_or (option_map (λ (e : Entry). length e.ranking) o) 0) (slice_get-get_or c.lanes l no_entry inside)
+      | inr past ↦ ap (λ o. unwrap_or (option_map (λ (e : Entry). length e.ranking) o) 0) (slice_get_past c.lanes l past) ∙ sym (ap (λ (e : Entry). length e.ranking) (get_or_past c.lanes l no_entry past))
     ]
 
 module _ (O : ℕ → Bool) (R : List ℕ) (i : ℕ) where

@@ -53,9 +53,6 @@ seat_not c g l never =
       | inr past ↦ seat_past c g l past
     ]
 
-none_some : (o : Option ℕ) (k : ℕ) → o ≡ None → o ≡ Some k → ⊥
-none_some o k e f = let z : ◌≡◌ {A = ℕ} 0 1 = cc in omega arith
-
 -- how many lots the lane at a place of the card of shed g holds
 abbrev pub seated : Contents → List Line → ℕ → ℕ → ℕ
 seated c ys g k = elim (ltb k (lanes (shed_of c g))) [ true ↦ held (first_lane c g + k) ys | false ↦ 0 ]
@@ -84,8 +81,8 @@ module _ (c : Contents) (laid : Laid c) (g : ℕ) where
 
   -- who sits at a place is held by the lane there
   sits : (y : Line) (k : ℕ) → seat c g y ≡ Some k → (k < lanes (shed_of c g)) × (holds y (first_lane c g + k) ≡ true)
-  sits Absent k e = absurd (none_some None k refl e)
-  sits (Looking n) k e = absurd (none_some None k refl e)
+  sits Absent k e = cc
+  sits (Looking n) k e = cc
   sits (Held l) k e =
       elim (cases_lt l (length c.lanes)) [
         | inl inside ↦ elim (cases_eq (lane_of c l).shed g) [
@@ -93,11 +90,11 @@ module _ (c : Contents) (laid : Laid c) (g : ℕ) where
               let there = seat_here c g l inside here in
               let at-k : (lane_of c l).place ≡ k = cc in
               (omega (arith, laid.stands_on_card l inside, ap (λ h. lanes (shed_of c h)) here), eq-eqb l (first_lane c g + k) (omega (arith, laid.in_order l inside, ap (first_lane c) here)))
-          | inr other ↦ absurd (none_some (seat c g (Held l)) k (seat_elsewhere c g l inside other) e)
+          | inr other ↦ cc (seat_elsewhere c g l inside other)
         ]
-        | inr past ↦ absurd (none_some (seat c g (Held l)) k (seat_past c g l past) e)
+        | inr past ↦ cc (seat_past c g l past)
       ]
-  sits Spent k e = absurd (none_some None k refl e)
+  sits Spent k e = cc
 
   -- at one of eight places
   pub seat_small : (y : Line) → IfSome (seat c g y) (λ p. p < 8)
@@ -163,7 +160,7 @@ module _ (c : Contents) (laid : Laid c) (g : ℕ) (ys : List Line) (i : ℕ) (h 
   )
 
   pub counts_same : seat c g (get_or ys i Absent) ≡ None → Counts c (take (i + 1) ys) g xs
-  counts_same e = (counts.0, λ k below. counts.1 k below ∙ sym (seated_same c laid g ys i h k (λ q. none_some (seat c g (get_or ys i Absent)) k e q)))
+  counts_same e = (counts.0, λ k below. counts.1 k below ∙ sym (seated_same c laid g ys i h k (λ q. cc)))
 
 pub counts_all : (c : Contents) (g : ℕ) (ys : List Line) (i : ℕ) → length ys ≤ i → (xs : List ℕ) → Counts c (take i ys) g xs → xs ≡ filling c ys g
 counts_all c g ys i past xs counts = fill_by_all (seated c ys g) xs 8 0 counts.0 (λ k below. counts.1 k below ∙ ap (λ zs. seated c zs g k) (take_all i ys past))

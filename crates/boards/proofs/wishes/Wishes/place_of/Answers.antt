@@ -1,6 +1,7 @@
-use Rattle.std.proofs.Common.{◌≡◌, ℕ, List, unwrap_or, length, sym, refl, ap, ◌∙◌, rules, tests}
+use Rattle.std.proofs.Common.{◌≡◌, ℕ, List, unwrap_or, length, sym, refl, ap, add-one, ◌∙◌, rules, tests}
 use Rattle.std.proofs.lemmas.Iterator.{YieldsList-from_slice, IsFirst-from_position, index_from_first}
-use Rattle.boards.proofs.Wanted.{place_here, place_later}
+use Rattle.std.proofs.lemmas.Bool.{eq-eqb, ne_eqb}
+use Rattle.boards.proofs.BoardLines.{place_yes, place_no}
 use Rattle.boards.specs.Lines.{place}
 use Rattle.boards.proofs.wishes.Wishes.place_of.Goals as goal
 
@@ -13,5 +14,5 @@ returns c =
     let is = c.deref.ensures.0 in
     c.unwrap_or.ensures
     ∙ ap (unwrap_or c.position.result) (c.len.ensures ∙ ap length (sym is))
-    ∙ sym (index_from_first found (λ x. x ≡ lane) (λ x. x ≡ lane → ⊥) refl (place_here lane) (place_later lane) xs c.position.result first)
+    ∙ sym (index_from_first found (λ x. x ≡ lane) (λ x. x ≡ lane → ⊥) refl (λ x xs e. place_yes x xs lane (eq-eqb x lane e)) (λ x xs e. place_no x xs lane (ne_eqb x lane e) ∙ sym (add-one (place xs lane))) xs c.position.result first)
     ∙ ap found is
