@@ -3,8 +3,8 @@ use Rattle.std.specs.Prelude.{ℕ, Bool, not, ◌||◌, List, [], ◌∷◌, len
 use Rattle.std.specs.Borrow.{Bor}
 use Rattle.std.specs.List.{list_any, slice_split}
 
--- Bytes that part others. Blanks, which are spaces, tabs and carriage returns, part words, slashes the numbers of a lane,
--- arrows the lanes of a move.
+-- A byte that parts others is a mark. Blanks, which are spaces, tabs and carriage returns, part words; slashes part the
+-- numbers of a lane, and arrows the lanes of a move.
 abbrev pub blank : ℕ → Bool
 blank b = b == 32 || b == 9 || b == 13
 
@@ -14,7 +14,7 @@ slash b = b == 47
 abbrev pub arrow : ℕ → Bool
 arrow b = b == 62
 
--- is there such a mark?
+-- is one of the bytes a mark?
 abbrev pub has : (ℕ → Bool) → List ℕ → Bool
 has mark bs = list_any mark bs
 
