@@ -10,6 +10,19 @@ pub(crate) const SHEET: [u32; 14] = [
     0x40000002, 0x30000001, 0x40000003, 0x30000002, 0x40000002, 0x40000001,
 ];
 
+// What a sheet may be refused for, and the layer that refuses it.
+pub(crate) const STRANGE: (Refusal, Layer) = (Refusal::Strange, Layer::Word);
+
+pub(crate) const MISPLACED: (Refusal, Layer) = (Refusal::Misplaced, Layer::Record);
+
+pub(crate) const TOO_MANY: (Refusal, Layer) = (Refusal::TooMany, Layer::Record);
+
+pub(crate) const UNKNOWN: (Refusal, Layer) = (Refusal::Unknown, Layer::Book);
+
+pub(crate) const TWICE: (Refusal, Layer) = (Refusal::Twice, Layer::Book);
+
+pub(crate) const OVERTARGETED: (Refusal, Layer) = (Refusal::Overtargeted, Layer::Book);
+
 // The book of a sheet that is accepted.
 pub(crate) fn opens(sheet: &[u32]) -> Result<Book, Fail> {
     let mut book = Book::new();
@@ -29,18 +42,16 @@ pub(crate) fn holds(rt: &impl Abort, sheet: &[u32], sheds: usize, lanes: usize) 
     assert_eq!(rt; opened(sheet), (Ok(()), sheds, lanes));
 }
 
-// The sheet is refused for this reason, at this place and by this layer, and the book is empty.
+// The sheet is refused for this reason, by this layer and at this place, and the book is empty.
 pub(crate) fn refused(
     rt: &impl Abort,
     sheet: &[u32],
-    refusal: Refusal,
+    (refusal, layer): (Refusal, Layer),
     place: usize,
-    layer: Layer,
-) -> Result<(), Fail> {
+) {
     let fault = Fault::new(refusal, place);
     assert_eq!(rt; fault.layer(), layer);
     assert_eq!(rt; opened(sheet), (Err(fault), 0, 0), "sheet {sheet:?}");
-    Ok(())
 }
 
 // In the book the lane ranks these lots in this order and no other.
@@ -61,8 +72,8 @@ pub(crate) fn ranks(rt: &impl Abort, sheet: &[u32], lane: usize, lots: &[u8]) ->
 // Four sheds of eight lanes, and two words behind them.
 pub(crate) fn four_sheds_and(first: u32, second: u32) -> [u32; 38] {
     let mut sheet = [0x20000001; 38];
-    for shed in 0..4usize {
-        sheet[9 * shed] = 0x10000001;
+    for word in sheet[..36].iter_mut().step_by(9) {
+        *word = 0x10000001;
     }
     sheet[36] = first;
     sheet[37] = second;
@@ -72,8 +83,8 @@ pub(crate) fn four_sheds_and(first: u32, second: u32) -> [u32; 38] {
 // Eight sheds of four lanes, and one lane more.
 pub(crate) fn eight_sheds(shed: u32, lane: u32) -> [u32; 41] {
     let mut sheet = [lane; 41];
-    for i in 0..8usize {
-        sheet[5 * i] = shed;
+    for word in sheet[..40].iter_mut().step_by(5) {
+        *word = shed;
     }
     sheet
 }

@@ -12,27 +12,16 @@ pub(crate) fn is_part(
     place: usize,
     length: usize,
 ) -> Result<(), Fail> {
-    let Some(part) = part else {
-        return Err(Fail::new("no part"));
-    };
+    let part = part.ok_or("no part")?;
     assert_eq!(rt; (part.place, part.words.len()), (place, length));
     assert!(rt; place <= words.len() && words[place..].starts_with(part.words));
     Ok(())
 }
 
-// The reader hands out no record: it tells this fault, or the end where there is none.
-fn no_record(rt: &impl Abort, reader: &mut Reader<'_>, fault: Option<Fault>) -> Result<(), Fail> {
-    match reader.next_record() {
-        Ok(None) => {
-            assert_eq!(rt; None, fault);
-            Ok(())
-        },
-        Ok(Some(_)) => Err(Fail::new("one record more")),
-        Err(told) => {
-            assert_eq!(rt; Some(told), fault);
-            Ok(())
-        },
-    }
+// The reader hands out no record: it is at the end, or tells this fault.
+fn no_record(rt: &impl Abort, reader: &mut Reader<'_>, end: Result<(), Fault>) {
+    let is_end = reader.next_record().map(|part| part.is_none());
+    assert_eq!(rt; is_end, end.map(|()| true));
 }
 
 // The records of the sheet have these places and lengths, and no call behind them hands out one more.
@@ -40,19 +29,20 @@ fn records(
     rt: &impl Abort,
     sheet: &[u32],
     parts: &[(usize, usize)],
-    fault: Option<Fault>,
+    end: Result<(), Fault>,
 ) -> Result<(), Fail> {
     let mut reader = Reader::new(sheet);
     for (place, length) in parts {
         is_part(rt, reader.next_record()?, sheet, *place, *length)?;
     }
-    no_record(rt, &mut reader, fault)?;
-    no_record(rt, &mut reader, fault)
+    no_record(rt, &mut reader, end);
+    no_record(rt, &mut reader, end);
+    Ok(())
 }
 
 #[test]
 fn an_empty_sheet_has_no_record(rt: HostRuntime) -> Result<(), Fail> {
-    records(&rt, &[], &[], None)
+    records(&rt, &[], &[], Ok(()))
 }
 
 #[test]
@@ -61,7 +51,7 @@ fn records_are_parts_of_the_sheet_with_their_places(rt: HostRuntime) -> Result<(
         &rt,
         &SHEET,
         &[(0, 3), (3, 2), (5, 4), (9, 2), (11, 3)],
-        None,
+        Ok(()),
     )
 }
 
@@ -72,7 +62,7 @@ fn a_strange_word_ends_a_record_and_is_told_again_and_again(rt: HostRuntime) -> 
         &rt,
         &sheet,
         &[(0, 1), (1, 2)],
-        Some(Fault::new(Refusal::Strange, 3)),
+        Err(Fault::new(Refusal::Strange, 3)),
     )
 }
 
@@ -83,7 +73,7 @@ fn a_misplaced_word_ends_a_record_and_is_told_again_and_again(rt: HostRuntime) -
         &rt,
         &sheet,
         &[(0, 1)],
-        Some(Fault::new(Refusal::Misplaced, 1)),
+        Err(Fault::new(Refusal::Misplaced, 1)),
     )
 }
 
@@ -91,12 +81,7 @@ fn a_misplaced_word_ends_a_record_and_is_told_again_and_again(rt: HostRuntime) -
 fn a_ninth_lane_ends_a_record_and_is_told_again_and_again(rt: HostRuntime) -> Result<(), Fail> {
     let mut sheet = [0x20000001; 11];
     sheet[0] = 0x10000001;
-    records(
-        &rt,
-        &sheet,
-        &[(0, 9)],
-        Some(Fault::new(Refusal::TooMany, 9)),
-    )
+    records(&rt, &sheet, &[(0, 9)], Err(Fault::new(Refusal::TooMany, 9)))
 }
 
 #[test]
@@ -105,6 +90,6 @@ fn a_refused_first_word_is_told_at_once(rt: HostRuntime) -> Result<(), Fail> {
         &rt,
         &[0x20000001, 0x10000001],
         &[],
-        Some(Fault::new(Refusal::Misplaced, 0)),
+        Err(Fault::new(Refusal::Misplaced, 0)),
     )
 }

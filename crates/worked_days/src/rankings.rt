@@ -1,15 +1,6 @@
-use crate::opening::{four_sheds_and, ranks, refused};
-use sheets::fault::{Layer, Refusal};
-use std::process::Abort;
+use crate::opening::{TWICE, UNKNOWN, four_sheds_and, ranks, refused};
+use std::array;
 use std::test::Fail;
-
-fn unknown(rt: &impl Abort, sheet: &[u32], place: usize) -> Result<(), Fail> {
-    refused(rt, sheet, Refusal::Unknown, place, Layer::Book)
-}
-
-fn twice(rt: &impl Abort, sheet: &[u32], place: usize) -> Result<(), Fail> {
-    refused(rt, sheet, Refusal::Twice, place, Layer::Book)
-}
 
 #[test]
 fn lot_255_is_ranked(rt: HostRuntime) -> Result<(), Fail> {
@@ -22,49 +13,68 @@ fn lot_255_is_ranked(rt: HostRuntime) -> Result<(), Fail> {
 }
 
 #[test]
-fn lot_256_is_unknown(rt: HostRuntime) -> Result<(), Fail> {
-    unknown(&rt, &[0x10000001, 0x20000001, 0x30000000, 0x40000100], 3)?;
-    unknown(&rt, &[0x10000001, 0x20000001, 0x30000000, 0x40000fff], 3)
+fn lot_256_is_unknown(rt: HostRuntime) {
+    refused(
+        &rt,
+        &[0x10000001, 0x20000001, 0x30000000, 0x40000100],
+        UNKNOWN,
+        3,
+    );
+    refused(
+        &rt,
+        &[0x10000001, 0x20000001, 0x30000000, 0x40000fff],
+        UNKNOWN,
+        3,
+    );
 }
 
 #[test]
-fn a_lane_that_is_not_in_the_book_is_unknown(rt: HostRuntime) -> Result<(), Fail> {
-    unknown(&rt, &[0x30000000], 0)?;
-    unknown(&rt, &[0x10000001, 0x20000001, 0x30000001], 2)
+fn a_lane_that_is_not_in_the_book_is_unknown(rt: HostRuntime) {
+    refused(&rt, &[0x30000000], UNKNOWN, 0);
+    refused(&rt, &[0x10000001, 0x20000001, 0x30000001], UNKNOWN, 2);
 }
 
 #[test]
 fn of_32_lanes_the_last_is_lane_31(rt: HostRuntime) -> Result<(), Fail> {
     ranks(&rt, &four_sheds_and(0x3000001f, 0x40000009), 31, &[9])?;
-    unknown(&rt, &four_sheds_and(0x30000020, 0x40000009), 36)
+    refused(&rt, &four_sheds_and(0x30000020, 0x40000009), UNKNOWN, 36);
+    Ok(())
 }
 
 #[test]
-fn a_second_ranking_of_a_lane_is_twice(rt: HostRuntime) -> Result<(), Fail> {
-    twice(&rt, &[0x10000001, 0x20000001, 0x30000000, 0x30000000], 3)?;
-    twice(
+fn a_second_ranking_of_a_lane_is_twice(rt: HostRuntime) {
+    refused(
+        &rt,
+        &[0x10000001, 0x20000001, 0x30000000, 0x30000000],
+        TWICE,
+        3,
+    );
+    refused(
         &rt,
         &[
             0x10000001, 0x20000001, 0x20000001, 0x30000000, 0x40000001, 0x30000001, 0x30000000,
         ],
+        TWICE,
         6,
-    )
+    );
 }
 
 #[test]
-fn a_lot_twice_in_a_ranking_is_twice(rt: HostRuntime) -> Result<(), Fail> {
-    twice(
+fn a_lot_twice_in_a_ranking_is_twice(rt: HostRuntime) {
+    refused(
         &rt,
         &[0x10000001, 0x20000001, 0x30000000, 0x40000000, 0x40000000],
+        TWICE,
         4,
-    )?;
-    twice(
+    );
+    refused(
         &rt,
         &[
             0x10000001, 0x20000001, 0x30000000, 0x40000005, 0x40000006, 0x40000005,
         ],
+        TWICE,
         5,
-    )
+    );
 }
 
 // The lane ranked first is lane 1.
@@ -84,19 +94,15 @@ fn all_lots_and(word: u32) -> [u32; 260] {
     sheet[0] = 0x10000001;
     sheet[1] = 0x20000001;
     sheet[2] = 0x30000000;
-    for i in 0..256u32 {
-        sheet[3 + i as usize] = 0x400000ff - i;
+    for (word, lot) in sheet[3..259].iter_mut().zip(all_lots()) {
+        *word = 0x40000000 | lot as u32;
     }
     sheet
 }
 
 // Lots 255 to 0.
 fn all_lots() -> [u8; 256] {
-    let mut lots = [0; 256];
-    for i in 0..256usize {
-        lots[i] = (255 - i) as u8;
-    }
-    lots
+    array::from_fn(|place| (255 - place) as u8)
 }
 
 #[test]
@@ -105,14 +111,13 @@ fn a_ranking_of_all_lots_opens(rt: HostRuntime) -> Result<(), Fail> {
 }
 
 #[test]
-fn behind_all_lots_every_lot_is_twice(rt: HostRuntime) -> Result<(), Fail> {
+fn behind_all_lots_every_lot_is_twice(rt: HostRuntime) {
     for lot in 0..256u32 {
-        twice(&rt, &all_lots_and(0x40000000 + lot), 259)?;
+        refused(&rt, &all_lots_and(0x40000000 + lot), TWICE, 259);
     }
-    Ok(())
 }
 
 #[test]
-fn behind_all_lots_a_lot_above_255_is_unknown(rt: HostRuntime) -> Result<(), Fail> {
-    unknown(&rt, &all_lots_and(0x40000100), 259)
+fn behind_all_lots_a_lot_above_255_is_unknown(rt: HostRuntime) {
+    refused(&rt, &all_lots_and(0x40000100), UNKNOWN, 259);
 }

@@ -3,13 +3,15 @@ use sharing::line_up::LineUp;
 use sharing::rule::SharingRule;
 use sharing::shares::Shares;
 use sharing::turns::Turns;
+use std::process::Abort;
 
 // A shed with a cap and two lanes, each a capacity and a target; none if there is no such card.
 fn two_lanes(cap: u16, first: (u16, u16), second: (u16, u16)) -> Option<Card> {
-    let (capacity, target) = first;
-    let card = Card::new(0, cap)?.with_lane(target, capacity)?;
-    let (capacity, target) = second;
-    card.with_lane(target, capacity)
+    [first, second]
+        .into_iter()
+        .try_fold(Card::new(0, cap)?, |card, (capacity, target)| {
+            card.with_lane(target, capacity)
+        })
 }
 
 fn row(first: u16, second: u16) -> [u16; 8] {
@@ -22,9 +24,13 @@ fn keeps<R: SharingRule>(rule: &R, card: Option<Card>, supply: [u16; 8]) -> Opti
     Some((answer[0], answer[1]))
 }
 
-// Does the shed gain by moving one lot from its first lane to its second?
-fn gains<R: SharingRule>(rule: &R, card: Option<Card>, filling: [u16; 8]) -> Option<bool> {
-    Some(rule.gain(&card?, &filling, 0, 1))
+// A shed of cap 4, with capacities 4 and 2, gains so by moving one lot from its first lane to its second.
+fn gains<R: SharingRule>(rt: &impl Abort, rule: &R, filling: [u16; 8], gain: bool) {
+    let card = two_lanes(4, (4, 0), (2, 0));
+    assert_eq!(rt;
+        card.map(|card| rule.gain(&card, &filling, 0, 1)),
+        Some(gain)
+    );
 }
 
 #[test]
@@ -79,25 +85,13 @@ fn a_supply_above_every_capacity_is_cut(rt: HostRuntime) {
 #[test]
 fn a_shed_gains_by_turns_or_not(rt: HostRuntime) {
     let rule = LineUp::of(Turns);
-    assert_eq!(rt;
-        gains(&rule, two_lanes(4, (4, 0), (2, 0)), row(3, 1)),
-        Some(true)
-    );
-    assert_eq!(rt;
-        gains(&rule, two_lanes(4, (4, 0), (2, 0)), row(2, 1)),
-        Some(false)
-    );
+    gains(&rt, &rule, row(3, 1), true);
+    gains(&rt, &rule, row(2, 1), false);
 }
 
 #[test]
 fn a_shed_gains_by_shares_or_not(rt: HostRuntime) {
     let rule = LineUp::of(Shares);
-    assert_eq!(rt;
-        gains(&rule, two_lanes(4, (4, 0), (2, 0)), row(3, 1)),
-        Some(false)
-    );
-    assert_eq!(rt;
-        gains(&rule, two_lanes(4, (4, 0), (2, 0)), row(4, 0)),
-        Some(true)
-    );
+    gains(&rt, &rule, row(3, 1), false);
+    gains(&rt, &rule, row(4, 0), true);
 }

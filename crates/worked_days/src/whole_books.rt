@@ -1,6 +1,7 @@
 use crate::opening::{SHEET, eight_sheds, opens, ranks};
 use books::book::Book;
 use books::totals::Totals;
+use std::array;
 use std::process::Abort;
 use std::test::Fail;
 
@@ -12,11 +13,10 @@ fn has_card(
     capacity: [u16; 8],
     target: [u16; 8],
 ) -> Result<(), Fail> {
-    let Some(card) = opens(sheet)?.card(shed as usize) else {
-        return Err(Fail::new("no card"));
-    };
+    let card = opens(sheet)?.card(shed as usize).ok_or("no card")?;
     assert_eq!(rt; (card.shed, card.cap, card.lanes), (shed, cap, lanes));
-    let (capacities, targets) = (card.capacity, card.target);
+    let capacities = array::from_fn(|place| card.capacity_of(place));
+    let targets = array::from_fn(|place| card.target_of(place));
     assert_eq!(rt; capacities, capacity);
     assert_eq!(rt; targets, target);
     Ok(())
