@@ -55,14 +55,17 @@ pub(crate) fn opens(sheet: &[u32]) -> Result<Book, Fail> {
     Ok(book)
 }
 
-// A new round over a sheet's book, by turns.
-pub(crate) fn by_turns(sheet: &[u32]) -> Result<Round<TurnRule>, Fail> {
-    Ok(Round::begin(&opens(sheet)?, LineUp::of(Turns)))
+// A new round over a sheet's book, under a rule.
+fn under<R: SharingRule + Drop>(sheet: &[u32], rule: R) -> Result<Round<R>, Fail> {
+    Ok(Round::begin(&opens(sheet)?, rule))
 }
 
-// The same by shares.
+pub(crate) fn by_turns(sheet: &[u32]) -> Result<Round<TurnRule>, Fail> {
+    under(sheet, LineUp::of(Turns))
+}
+
 pub(crate) fn by_shares(sheet: &[u32]) -> Result<Round<ShareRule>, Fail> {
-    Ok(Round::begin(&opens(sheet)?, LineUp::of(Shares)))
+    under(sheet, LineUp::of(Shares))
 }
 
 // A call on a round and what it answers, or what the round says.
@@ -91,9 +94,7 @@ fn is_fault(
     told: Option<Fault>,
     fault: (u8, usize, Layer),
 ) -> Result<(), Fail> {
-    let Some(told) = told else {
-        return Err(Fail::new("no refusal"));
-    };
+    let told = told.ok_or("no refusal")?;
     assert_eq!(rt;
         (told.refusal().number(), told.place(), told.layer()),
         fault,
@@ -123,30 +124,20 @@ pub(crate) fn makes<R: SharingRule>(
     step: Step<'_>,
 ) -> Result<(), Fail> {
     match step {
-        Step::Enters(slip, lot) => {
-            assert_eq!(rt; round.enter(slip), Ok(lot), "{step:?}");
-            Ok(())
-        },
-        Step::Refuses(slip, fault) => is_fault(rt, step, round.enter(slip).err(), fault),
+        Step::Enters(slip, lot) => assert_eq!(rt; round.enter(slip), Ok(lot), "{step:?}"),
+        Step::Refuses(slip, fault) => is_fault(rt, step, round.enter(slip).err(), fault)?,
         Step::Applies(lot, outcome, line) => {
             assert_eq!(rt; round.apply(lot), Ok(outcome), "{step:?}");
             assert_eq!(rt; round.line(lot), line, "{step:?}");
-            Ok(())
-        },
-        Step::Idle(lot) => is_idle(rt, round, lot),
+        }
+        Step::Idle(lot) => is_idle(rt, round, lot)?,
         Step::Settles(applications) => {
             assert_eq!(rt; round.settle(), applications, "{step:?}");
-            Ok(())
-        },
-        Step::Says(lot, line) => {
-            assert_eq!(rt; round.line(lot), line, "{step:?}");
-            Ok(())
-        },
-        Step::Counts(count) => {
-            assert_eq!(rt; round.count(), count, "{step:?}");
-            Ok(())
-        },
+        }
+        Step::Says(lot, line) => assert_eq!(rt; round.line(lot), line, "{step:?}"),
+        Step::Counts(count) => assert_eq!(rt; round.count(), count, "{step:?}"),
     }
+    Ok(())
 }
 
 // The steps in order.
@@ -179,11 +170,10 @@ pub(crate) fn pass(rt: &impl Abort, sheet: &[u32], steps: &[Step<'_>]) -> Result
 
 // The list has these lanes in this order.
 fn is_list(list: &Wishes, lanes: &[u8]) -> bool {
-    let mut same = list.len() == lanes.len();
-    for (place, lane) in lanes.iter().enumerate() {
-        same = same && list.get(place) == Some(*lane) && list.has(*lane);
-    }
-    same && list.get(lanes.len()).is_none()
+    let mut places = lanes.iter().enumerate();
+    list.len() == lanes.len()
+        && places.all(|(place, lane)| list.get(place) == Some(*lane) && list.has(*lane))
+        && list.get(lanes.len()).is_none()
 }
 
 // The lot is entered with this list.
@@ -193,26 +183,20 @@ pub(crate) fn has_list<R: SharingRule>(
     lot: usize,
     lanes: &[u8],
 ) -> Result<(), Fail> {
-    let Some(list) = round.list(lot) else {
-        return Err(Fail::new("no list"));
-    };
+    let list = round.list(lot).ok_or("no list")?;
     assert!(rt; is_list(&list, lanes));
     Ok(())
 }
 
 // The same list, or none in both.
 fn same_list(one: Option<Wishes>, other: Option<Wishes>) -> bool {
-    let Some(one) = one else {
-        return other.is_none();
-    };
-    let Some(other) = other else {
-        return false;
-    };
-    let mut same = one.len() == other.len();
-    for place in 0..12usize {
-        same = same && one.get(place) == other.get(place);
+    match (one, other) {
+        (Some(one), Some(other)) => {
+            one.len() == other.len() && (0..12).all(|place| one.get(place) == other.get(place))
+        }
+        (None, None) => true,
+        _ => false,
     }
-    same
 }
 
 // The two rounds say the same of every lot, and have the same count.
@@ -227,8 +211,8 @@ pub(crate) fn alike<R: SharingRule>(rt: &impl Abort, one: &Round<R>, other: &Rou
 // Four sheds of eight lanes, and no ranking.
 pub(crate) fn four_sheds() -> [u32; 36] {
     let mut sheet = [0x20000001; 36];
-    for shed in 0..4usize {
-        sheet[9 * shed] = 0x10000001;
+    for word in sheet.iter_mut().step_by(9) {
+        *word = 0x10000001;
     }
     sheet
 }
@@ -236,8 +220,8 @@ pub(crate) fn four_sheds() -> [u32; 36] {
 // The slip of a lot that wishes the first thirteen lanes in order; all words but the last make one with twelve wishes.
 pub(crate) fn thirteen_wishes(lot: u32) -> [u32; 14] {
     let mut slip = [0x50000000 | lot; 14];
-    for lane in 0..13u32 {
-        slip[lane as usize + 1] = 0x60000000 | lane;
+    for (word, lane) in slip[1..].iter_mut().zip(0..13u32) {
+        *word = 0x60000000 | lane;
     }
     slip
 }

@@ -10,13 +10,13 @@ use std::test::Fail;
 // 256s, at place p of its ranking, so each lot once.
 fn sheet() -> [u32; 8260] {
     let mut sheet = [0x20001014; 8260];
-    for shed in 0..4usize {
-        sheet[9 * shed] = 0x10000014;
+    for word in sheet[..36].iter_mut().step_by(9) {
+        *word = 0x10000014;
     }
-    for lane in 0..32usize {
-        sheet[36 + 257 * lane] = 0x30000000 | lane as u32;
-        for place in 0..256usize {
-            sheet[37 + 257 * lane + place] = 0x40000000 | ((5 * place + 7 * lane) % 256) as u32;
+    for (record, lane) in sheet[36..].chunks_exact_mut(257).zip(0..32u8) {
+        record[0] = 0x30000000 | lane as u32;
+        for (word, place) in record[1..].iter_mut().zip(0..=255u8) {
+            *word = 0x40000000 | (5 * place as u32 + 7 * lane as u32) % 256;
         }
     }
     sheet
@@ -26,8 +26,8 @@ fn sheet() -> [u32; 8260] {
 fn slip(lot: u8) -> [u32; 13] {
     let lot = lot as u32;
     let mut slip = [0x50000000 | lot; 13];
-    for wish in 0..12u32 {
-        slip[wish as usize + 1] = 0x60000000 | (3 * lot + 5 * wish) % 32;
+    for (word, wish) in slip[1..].iter_mut().zip(0..12u8) {
+        *word = 0x60000000 | (3 * lot + 5 * wish as u32) % 32;
     }
     slip
 }
@@ -38,19 +38,22 @@ fn enters_all<R: SharingRule>(rt: &impl Abort, round: &mut Round<R>) {
     }
 }
 
-// How many lots have such a line, by its number: 0 absent, 1 looking, 2 held, 3 spent.
-fn counts<R: SharingRule>(round: &Round<R>) -> [u16; 4] {
-    let mut counts = [0u16; 4];
-    for lot in 0..256usize {
-        let kind = match round.line(lot) {
-            Line::Absent => 0usize,
-            Line::Looking { .. } => 1,
-            Line::Held { .. } => 2,
-            Line::Spent => 3,
-        };
-        counts[kind] = counts[kind].saturating_add(1);
-    }
-    counts
+// How many lots are absent, look, are held and are spent.
+fn counts<R: SharingRule>(round: &Round<R>) -> [usize; 4] {
+    [
+        (0..256)
+            .filter(|lot| round.line(*lot) == Line::Absent)
+            .count(),
+        (0..256)
+            .filter(|lot| matches!(round.line(*lot), Line::Looking { .. }))
+            .count(),
+        (0..256)
+            .filter(|lot| matches!(round.line(*lot), Line::Held { .. }))
+            .count(),
+        (0..256)
+            .filter(|lot| round.line(*lot) == Line::Spent)
+            .count(),
+    ]
 }
 
 // There is a spent lot, since the stores have room for 80. Each shed has turned it away or dropped it, so each holds its

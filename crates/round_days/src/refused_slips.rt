@@ -21,40 +21,48 @@ pub(crate) fn refused(
     Ok(())
 }
 
-fn strange(rt: &impl Abort, slip: &[u32], place: usize) -> Result<(), Fail> {
-    refused(rt, &SHEET, slip, (2, place, Layer::Word))
-}
-
-fn misplaced(rt: &impl Abort, slip: &[u32], place: usize) -> Result<(), Fail> {
-    refused(rt, &SHEET, slip, (3, place, Layer::Record))
-}
-
-fn unknown(rt: &impl Abort, sheet: &[u32], slip: &[u32], place: usize) -> Result<(), Fail> {
-    refused(rt, sheet, slip, (5, place, Layer::Book))
-}
-
 #[test]
 fn a_word_of_another_kind_or_with_a_stray_bit_is_strange(rt: HostRuntime) -> Result<(), Fail> {
-    strange(&rt, &[0x40000001], 0)?;
-    strange(&rt, &[0x50001001], 0)?;
-    strange(&rt, &[0x50000001, 0x70000000], 1)?;
-    strange(&rt, &[0x50000001, 0x60000000, 0x60001002], 2)
+    refused(&rt, &SHEET, &[0x40000001], (2, 0, Layer::Word))?;
+    refused(&rt, &SHEET, &[0x50001001], (2, 0, Layer::Word))?;
+    refused(&rt, &SHEET, &[0x50000001, 0x70000000], (2, 1, Layer::Word))?;
+    refused(
+        &rt,
+        &SHEET,
+        &[0x50000001, 0x60000000, 0x60001002],
+        (2, 2, Layer::Word),
+    )
 }
 
 #[test]
 fn a_slip_with_no_word_is_misplaced(rt: HostRuntime) -> Result<(), Fail> {
-    misplaced(&rt, &[], 0)
+    refused(&rt, &SHEET, &[], (3, 0, Layer::Record))
 }
 
 #[test]
 fn a_first_word_that_is_not_lot_is_misplaced(rt: HostRuntime) -> Result<(), Fail> {
-    misplaced(&rt, &[0x60000000, 0x50000001], 0)
+    refused(
+        &rt,
+        &SHEET,
+        &[0x60000000, 0x50000001],
+        (3, 0, Layer::Record),
+    )
 }
 
 #[test]
 fn a_later_lot_is_misplaced(rt: HostRuntime) -> Result<(), Fail> {
-    misplaced(&rt, &[0x50000001, 0x50000001], 1)?;
-    misplaced(&rt, &[0x50000001, 0x60000000, 0x50000002], 2)
+    refused(
+        &rt,
+        &SHEET,
+        &[0x50000001, 0x50000001],
+        (3, 1, Layer::Record),
+    )?;
+    refused(
+        &rt,
+        &SHEET,
+        &[0x50000001, 0x60000000, 0x50000002],
+        (3, 2, Layer::Record),
+    )
 }
 
 #[test]
@@ -89,8 +97,8 @@ fn lots_0_and_255_are_entered(rt: HostRuntime) -> Result<(), Fail> {
 
 #[test]
 fn a_lot_above_255_is_unknown(rt: HostRuntime) -> Result<(), Fail> {
-    unknown(&rt, &SHEET, &[0x50000100], 0)?;
-    unknown(&rt, &SHEET, &[0x50000fff, 0x60000000], 0)
+    refused(&rt, &SHEET, &[0x50000100], (5, 0, Layer::Book))?;
+    refused(&rt, &SHEET, &[0x50000fff, 0x60000000], (5, 0, Layer::Book))
 }
 
 // The last of three lanes is lane 2, that of 32 lanes is lane 31.
@@ -106,10 +114,25 @@ fn the_last_lane_is_known(rt: HostRuntime) -> Result<(), Fail> {
 
 #[test]
 fn a_lane_behind_the_last_is_unknown(rt: HostRuntime) -> Result<(), Fail> {
-    unknown(&rt, &SHEET, &[0x50000001, 0x60000002, 0x60000003], 2)?;
-    unknown(&rt, &four_sheds(), &[0x50000001, 0x60000020], 1)?;
-    unknown(&rt, &four_sheds(), &[0x50000001, 0x60000100], 1)?;
-    unknown(&rt, &[], &[0x50000001, 0x60000000], 1)
+    refused(
+        &rt,
+        &SHEET,
+        &[0x50000001, 0x60000002, 0x60000003],
+        (5, 2, Layer::Book),
+    )?;
+    refused(
+        &rt,
+        &four_sheds(),
+        &[0x50000001, 0x60000020],
+        (5, 1, Layer::Book),
+    )?;
+    refused(
+        &rt,
+        &four_sheds(),
+        &[0x50000001, 0x60000100],
+        (5, 1, Layer::Book),
+    )?;
+    refused(&rt, &[], &[0x50000001, 0x60000000], (5, 1, Layer::Book))
 }
 
 #[test]

@@ -18,18 +18,22 @@ fn an_empty_round_is_settled(rt: HostRuntime) -> Result<(), Fail> {
     Ok(())
 }
 
-// Settling takes so many applications, all that were made. Then lots 1 to 4 have these lines.
-fn settles<R: SharingRule>(
+// On a new round the slips are entered, and settling takes so many applications, all that were made. Then lots 1 to 4
+// have these lines.
+fn settles<R: SharingRule + Drop>(
     rt: &impl Abort,
-    round: &mut Round<R>,
+    mut round: Round<R>,
+    slips: &[Step<'_>],
     applications: u32,
     lines: [Line; 4],
-) {
+) -> Result<(), Fail> {
+    runs(rt, &mut round, slips)?;
     assert_eq!(rt; round.settle(), applications);
     assert_eq!(rt; round.count(), applications);
-    for (i, line) in lines.iter().enumerate() {
-        assert_eq!(rt; round.line(i + 1), *line, "{}", i + 1);
+    for (lot, line) in (1..).zip(lines) {
+        assert_eq!(rt; round.line(lot), line, "{lot}");
     }
+    Ok(())
 }
 
 // The four slips of the sheet, by number.
@@ -51,38 +55,30 @@ const TURNED_SLIPS: [Step<'static>; 4] = [
 // Lot 4 drops lot 3.
 #[test]
 fn the_day_by_turns(rt: HostRuntime) -> Result<(), Fail> {
-    let mut round = by_turns(&SHEET)?;
-    runs(&rt, &mut round, &SLIPS)?;
-    settles(&rt, &mut round, 4, [HELD_2, HELD_0, Line::Spent, HELD_0]);
-    Ok(())
+    let lines = [HELD_2, HELD_0, Line::Spent, HELD_0];
+    settles(&rt, by_turns(&SHEET)?, &SLIPS, 4, lines)
 }
 
 // Beyond the target lane 0 has its second place at 1 of 2, before the first of lane 1 at 1 of 1.
 #[test]
 fn the_day_by_shares(rt: HostRuntime) -> Result<(), Fail> {
-    let mut round = by_shares(&SHEET)?;
-    runs(&rt, &mut round, &SLIPS)?;
-    settles(&rt, &mut round, 4, [HELD_2, HELD_0, Line::Spent, HELD_0]);
-    Ok(())
+    let lines = [HELD_2, HELD_0, Line::Spent, HELD_0];
+    settles(&rt, by_shares(&SHEET)?, &SLIPS, 4, lines)
 }
 
 // Lane 0 has its first place before the second of lane 1, since it is the earlier lane. So lot 4 drops lot 2, which
 // drops lot 1 from lane 2, which drops lot 4.
 #[test]
 fn the_turned_day_by_turns(rt: HostRuntime) -> Result<(), Fail> {
-    let mut round = by_turns(&TURNED_SHEET)?;
-    runs(&rt, &mut round, &TURNED_SLIPS)?;
-    settles(&rt, &mut round, 6, [HELD_1, HELD_2, HELD_0, Line::Spent]);
-    Ok(())
+    let lines = [HELD_1, HELD_2, HELD_0, Line::Spent];
+    settles(&rt, by_turns(&TURNED_SHEET)?, &TURNED_SLIPS, 6, lines)
 }
 
 // Lane 1 has its second place at 1 of 2, before the first of lane 0 at 1 of 1. So lot 4 drops lot 3.
 #[test]
 fn the_turned_day_by_shares(rt: HostRuntime) -> Result<(), Fail> {
-    let mut round = by_shares(&TURNED_SHEET)?;
-    runs(&rt, &mut round, &TURNED_SLIPS)?;
-    settles(&rt, &mut round, 4, [HELD_2, HELD_1, Line::Spent, HELD_1]);
-    Ok(())
+    let lines = [HELD_2, HELD_1, Line::Spent, HELD_1];
+    settles(&rt, by_shares(&TURNED_SHEET)?, &TURNED_SLIPS, 4, lines)
 }
 
 #[test]
