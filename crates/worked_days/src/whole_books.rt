@@ -14,7 +14,7 @@ fn has_card(
     target: [u16; 8],
 ) -> Result<(), Fail> {
     let card = opens(sheet)?.card(shed as usize).ok_or("no card")?;
-    assert_eq!(rt; (card.shed, card.cap, card.lanes), (shed, cap, lanes));
+    assert_eq!(rt; (card.shed, card.cap, card.lanes.len()), (shed, cap, lanes));
     let capacities = array::from_fn(|place| card.capacity_of(place));
     let targets = array::from_fn(|place| card.target_of(place));
     assert_eq!(rt; capacities, capacity);
