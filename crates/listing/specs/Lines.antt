@@ -1,6 +1,7 @@
 -- What a person is shown of a book.
 use Rattle.std.specs.Prelude.{ℕ, zero, suc, true, false, List, [], ◌∷◌, ◌++◌, length, codes, decimal, Some, None, Option, ◌==◌}
 use Rattle.std.specs.List.{slice_get}
+use Rattle.std.specs.Option.{option_map}
 use Rattle.sharing.specs.Cards.{Terms}
 use Rattle.sharing.specs.Rules.{at, lanes}
 use Rattle.books.specs.declared.totals.Totals.{Totals}
@@ -33,18 +34,27 @@ lane_line l = codes "  lane " ++ (decimal l.lane ++ (codes ": target " ++ (decim
 abbrev pub ended : List ℕ → List ℕ
 ended line = line ++ (10 ∷ [])
 
+-- the same of a line that there may be
+abbrev pub shown : Option (List ℕ) → List ℕ
+shown None = []
+shown (Some line) = ended line
+
 -- the texts of the numbers below n, one behind the other
 abbrev pub joined : (ℕ → List ℕ) → ℕ → List ℕ
 joined text zero = []
 joined text (suc n) = joined text n ++ text n
 
--- the line of a lane below its shed; nothing below another
-abbrev pub below : Contents → ℕ → ℕ → List ℕ
-below c g l = elim (told_in c g l) [ None ↦ [] | Some line ↦ ended (lane_line line) ]
+-- the lines of the numbers below n; a number that has nothing to tell has none
+abbrev pub lines : {A : Type 0} → (ℕ → A → List ℕ) → (ℕ → Option A) → ℕ → List ℕ
+lines line found n = joined (λ k. shown (option_map (line k) (found k))) n
+
+-- the lines of the first n lanes, where they stand in the shed
+abbrev pub lane_lines : Contents → ℕ → ℕ → List ℕ
+lane_lines c g n = lines (λ l. lane_line) (told_in c g) n
 
 -- a shed and its lanes, in the order of their numbers; nothing if the shed is not in the book
 abbrev pub shed_lines : Contents → ℕ → List ℕ
-shed_lines c g = elim (slice_get c.sheds g) [ None ↦ [] | Some t ↦ ended (shed_line t) ++ joined (below c g) (length c.lanes) ]
+shed_lines c g = elim (slice_get c.sheds g) [ None ↦ [] | Some t ↦ ended (shed_line t) ++ lane_lines c g (length c.lanes) ]
 
 -- as "totals: sheds 2, lanes 3, caps 3, targets 1, capacities 4, lots ranked 6"
 abbrev pub totals_line : Totals → List ℕ

@@ -6,6 +6,7 @@ use Rattle.slipview.proofs.Wishes.{one_more, whole_line}
 use Rattle.slipview.proofs.slips.ListLineDisplay.fmt.Goals as goal
 use Rattle.slipview.proofs.slips.ListLineDisplay.fmt.Goals.{in-Some-get+in_ok-write-2, in_default-get}
 
+-- one lane more
 pub loop-place-preserved : goal.loop-place-preserved
 loop-place-preserved g c = (
   omega arith,
@@ -21,6 +22,7 @@ loop-place-preserved g c = (
       ],
 )
 
+-- behind the last lane
 pub returns-clause-writes : goal.returns-clause-writes
 returns-clause-writes g c plain ok =
     has_written_of_eq _ _ _ _ _
