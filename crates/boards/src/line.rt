@@ -43,9 +43,6 @@ impl Line {
     pub fn is_held_at(self, lane: usize) -> bool
         ensures { result ≡ holds self lane }
     {
-        match self {
-            Line::Held { lane: at } => at as usize == lane,
-            Line::Absent | Line::Looking { .. } | Line::Spent => false,
-        }
+        matches!(self, Line::Held { lane: at } if at as usize == lane)
     }
 }
