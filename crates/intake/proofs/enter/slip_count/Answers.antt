@@ -1,4 +1,4 @@
-use Rattle.std.proofs.Common.{ℕ, Bool, is_some, refl, ◌∙◌, rules}
+use Rattle.std.proofs.Common.{◌≡◌, length, ℕ, Bool, is_some, refl, ◌∙◌, rules}
 use Rattle.std.proofs.lemmas.Iterator.{YieldsList-from_range}
 use Rattle.std.proofs.lemmas.Iterator.Consumers.{YieldsList-from_filter, count_from_yields_List}
 use Rattle.std.proofs.lemmas.List.Sums.{length-filter}
@@ -12,7 +12,8 @@ pub returns : goal.returns
 returns g c =
     let t = c.args.round.now.table in
     let ls = (board t).lists in
+    let full : length ls ≡ 256 = search rules in
     let listed : ℕ → Bool = λ lot. is_some (list_at ls lot) in
     count_from_yields_List c.filter.result c.count.result c.count.ensures.ran (YieldsList-from_filter _ listed (YieldsList-from_range 0 256 256 (cc) refl) c.filter.ensures.closure (λ x b q k. search rules))
     ∙ length-filter listed (range_with_len 0 256)
-    ∙ all_listed ls t.facts.lists_lawful.0
+    ∙ all_listed ls full
