@@ -34,10 +34,10 @@ loop-slip-init g c =
       rest = ap (λ (k : ℕ). enter_all (first + k) s (cut (drop k slips))) c.new-reader.ensures.at ∙ ap (λ (k : ℕ). enter_all k s (cut slips)) none;
     }
 
--- a slip's refusal is told at a place of the input
-refusal_fits : (s : Board) (ws : List ℕ) (answer : Result ℕ Fault) (first slips at place : ℕ) → answer ≡ lot_of (slip_of s ws) → first + slips < 2 ^ 64 → place ≡ at → at + length ws ≤ slips → IfErr answer (λ f. first + place + f.place < 2 ^ 64)
-refusal_fits s ws (Ok lot) first slips at place e room is within = tt
-refusal_fits s ws (Err f) first slips at place e room is within = let short = (refused_within s ws f e).1 in omega arith
+-- a refusal is told at a place of the input, if it is told of words that end there
+refusal_fits : (s : Board) (ws : List ℕ) (answer : Result ℕ Fault) (told : ℕ) → answer ≡ lot_of (slip_of s ws) → told + length ws < 2 ^ 64 → IfErr answer (λ f. told + f.place < 2 ^ 64)
+refusal_fits s ws (Ok lot) told e room = tt
+refusal_fits s ws (Err f) told e room = let short = (refused_within s ws f e).1 in omega arith
 
 pub overflow_add-first-in-Some : goal.overflow_add-first-in-Some
 overflow_add-first-in-Some g c =
@@ -59,7 +59,9 @@ in_day_at-requires g c =
     let got = c.in-Some.ensures in
     let end = c.next_slip.new.self in
     let hand = handed r.words.now end.words.now slips r.at end.at slip c.loop-slip.invariant.words got.words got.part got.at end.within in
-    refusal_fits (board c.loop-slip.round.table) slip.words.now c.enter.result (1 + length c.args.day.book.now) (length slips) r.at slip.place c.enter.ensures.answer c.loop-slip.invariant.room hand.next.place hand.within
+    let place = hand.next.place in
+    let within = hand.within in
+    refusal_fits (board c.loop-slip.round.table) slip.words.now c.enter.result _ c.enter.ensures.answer (omega (arith, c.loop-slip.invariant.room))
 
 -- what a call answered, by its answer in the whole input
 kept_answer : (place : ℕ) (r : Result ℕ Fault) (x : ℕ) → Ok x ≡ answer_at place r → Ok x ≡ r
