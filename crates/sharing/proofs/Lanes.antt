@@ -1,17 +1,7 @@
 -- One lane more on a card.
-use Rattle.std.proofs.Common.{◌≡◌, ℕ, ◌<◌, true, false, ◌≢◌, List, length, get_or, set, Some, None, sym, ap, subst, inl, inr}
-use Rattle.std.proofs.lemmas.List.{get_or-set_same, get_or-set_other}
-use Rattle.std.proofs.lemmas.Bool.{cases_eq, cases_Bool}
+use Rattle.std.proofs.Common.{◌≡◌, ℕ, true, false, Some, None, ap, inl, inr}
+use Rattle.std.proofs.lemmas.Bool.{cases_Bool}
 use Rattle.sharing.specs.Cards.{Terms, unfit, more_terms, with_lane}
-
--- what holds of every other place and of the value holds of every place
-pub at_set : {X : Type 0} (d : X) (P : ℕ → X → Type 0) (xs : List X) (at : ℕ) (v : X) (k : ℕ) → at < length xs → P at v → ((k : ℕ) → k ≢ at → P k (get_or xs k d)) →
-    P k (get_or (set xs at v) k d)
-at_set d P xs at v k h here others =
-    elim (cases_eq k at) [
-      | inl e ↦ subst (λ j. P j (get_or (set xs at v) j d)) (sym e) (subst (P at) (sym (get_or-set_same xs at v d h)) here)
-      | inr ne ↦ subst (P k) (sym (get_or-set_other xs at k v d ne)) (others k ne)
-    ]
 
 -- a lane that fits is added behind the others
 pub lane_added : (t : Terms) (target capacity : ℕ) → unfit t target capacity ≡ false → with_lane t target capacity ≡ Some (more_terms t target capacity)
@@ -21,13 +11,6 @@ pub lane_unfit : (t : Terms) (target capacity : ℕ) → unfit t target capacity
 lane_unfit t target capacity e = ap (λ b. elim b [ true ↦ None | false ↦ Some (more_terms t target capacity) ]) e
 
 -- what an answer says of the lane that was asked for
-pub lane_refused : (t : Terms) (target capacity : ℕ) → with_lane t target capacity ≡ None → unfit t target capacity ≡ true
-lane_refused t target capacity e =
-    elim (cases_Bool (unfit t target capacity)) [
-      | inl yes' ↦ yes'
-      | inr no' ↦ let taken = lane_added t target capacity no' in cc
-    ]
-
 pub lane_taken : (t u : Terms) (target capacity : ℕ) → with_lane t target capacity ≡ Some u → (unfit t target capacity ≡ false) × (u ≡ more_terms t target capacity)
 lane_taken t u target capacity e =
     elim (cases_Bool (unfit t target capacity)) [

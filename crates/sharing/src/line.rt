@@ -21,9 +21,8 @@ impl<O: PlaceOrder> Line<'_, O> {
     fn places(&self, lane: usize) -> u16
         ensures { result ≡ places (terms self.now.card.now) self.now.supply.now lane }
     {
-        let supply = self.supply;
-        let wanted = supply.get(lane).copied().unwrap_or(0);
-        wanted.min(self.card.capacity_of(lane))
+        let supplied = Holding::of(self.supply, lane).lots;
+        supplied.min(self.card.capacity_of(lane))
     }
 
     // The next place of a lane; none if it keeps as many as it has places.

@@ -1,14 +1,9 @@
 -- The words of a record that is handed out are accepted in turn.
-use Rattle.std.proofs.Common.{◌≡◌, ℕ, ◌<◌, true, List, [], ◌∷◌, ◌++◌, length, take, drop, Some, None, Ok, Option, refl, arith}
+use Rattle.std.proofs.Common.{◌≡◌, ℕ, ◌<◌, true, List, [], ◌∷◌, ◌++◌, length, take, drop, Some, Ok, refl, arith}
 use Rattle.std.proofs.lemmas.Grind.{common_steps}
-use Rattle.std.specs.Option.{ok_or}
 use Rattle.sheets.specs.declared.progress.Progress.{Progress}
 use Rattle.sheets.specs.Progress.{passes, along, run_length, run_progress}
 use Rattle.sheets.specs.Records.{Page, next_record, record_progress}
-
-pub some_from_ok : {T E : Type 0} (o : Option T) (e : E) (x : T) → ok_or o e ≡ Ok x → o ≡ Some x
-some_from_ok None e x h = cc
-some_from_ok (Some y) e x h = cc
 
 run_passes : (p : Progress) (ws : List ℕ) → passes p (take (run_length p ws) ws) ≡ true
 run_passes p [] = refl
@@ -34,7 +29,3 @@ handed p at ws page e = record {
   passing = grind (arith, common_steps, run_passes);
   progress = grind (arith, common_steps, along-run);
 }
-
--- no record is left only at the end
-pub none_left : (p : Progress) (at : ℕ) (ws : List ℕ) → next_record p at ws ≡ Ok None → ws ≡ []
-none_left p at ws e = grind (arith, common_steps)

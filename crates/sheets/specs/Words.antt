@@ -62,10 +62,6 @@ small (Lane t q) = (t ≤ 4095) × (q ≤ 4095)
 small (Rank l) = l ≤ 4095
 small (Next i) = i ≤ 4095
 
--- the same at a place of the sheet
-abbrev pub read_book_word : ℕ → ℕ → Result BookWord Fault
-read_book_word w place = read_word book_word w place
-
 -- a word of a slip; none where it is strange there
 abbrev pub slip_word : ℕ → Option SlipWord
 slip_word w =
@@ -74,7 +70,3 @@ slip_word w =
       | false ↦
           elim (kind w == 6 && lone w) [ true ↦ Some (Wish (low w)) | false ↦ None ]
     ]
-
--- the same at a place of the slip
-abbrev pub read_slip_word : ℕ → ℕ → Result SlipWord Fault
-read_slip_word w place = read_word slip_word w place

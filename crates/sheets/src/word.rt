@@ -1,6 +1,6 @@
 ghost use Rattle.std.specs.Prelude.{◌≡◌, ℕ, ◌-◌, ◌*◌, ◌/◌, ◌%◌, ◌^◌, ◌≤◌, ◌==◌, Option, Result};
 ghost use Rattle.sheets.specs.declared.fault.Refusal.{Refusal};
-ghost use Rattle.sheets.specs.Words.{kind, low, converted, read_word, book_word, slip_word};
+ghost use Rattle.sheets.specs.Words.{kind, low, lone, paired, converted, read_word, book_word, slip_word};
 
 use crate::fault::{Fault, Refusal};
 
@@ -59,7 +59,8 @@ fn field(bits: u32) -> u16
 // Is nothing set between the kind and so many fields?
 fn has_fields(word: u32, count: u32) -> bool
     requires { count ≤ 2 }
-    ensures { result ≡ (word / 2 ^ (12 * count) % 2 ^ (28 - 12 * count) == 0) }
+    ensures one { count ≡ 1 → result ≡ lone word }
+    ensures two { count ≡ 2 → result ≡ paired word }
 {
     (word >> (12 * count)) % (1 << (28 - 12 * count)) == 0
 }
