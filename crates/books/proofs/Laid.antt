@@ -8,7 +8,7 @@ use Rattle.sharing.specs.Rules.{lanes}
 use Rattle.books.specs.declared.book.Book.{Book}
 use Rattle.books.specs.declared.lane.Lane.{Lane}
 use Rattle.books.specs.Lanes.{distinct, all_below}
-use Rattle.books.specs.Entries.{Contents, entry, shown, lane_of, no_shed, ranking_of}
+use Rattle.books.specs.Entries.{Contents, entry, contents_of, lane_of, no_shed, ranking_of}
 use Rattle.books.specs.Contents.{contents}
 use Rattle.books.specs.Laid.{Laid, shed_of, first_lane}
 use Rattle.books.proofs.Standing.{sum_longer}
@@ -20,7 +20,7 @@ shown_of f e (x ∷ xs) zero h = (x, refl)
 shown_of f e (x ∷ xs) (suc i) h = shown_of f e xs i (omega arith)
 
 -- what holds of the ranking of each lane, and of none, holds of every ranking
-of_rankings : (P : List ℕ → Type 0) → P [] → ((x : Lane) → P (entry x).ranking) → (cards : List Card) (ls : List Lane) (l : ℕ) → P (ranking_of (shown cards ls) l)
+of_rankings : (P : List ℕ → Type 0) → P [] → ((x : Lane) → P (entry x).ranking) → (cards : List Card) (ls : List Lane) (l : ℕ) → P (ranking_of (contents_of cards ls) l)
 of_rankings P none each cards [] l = none
 of_rankings P none each cards (x ∷ ls) zero = each x
 of_rankings P none each cards (x ∷ ls) (suc l) = of_rankings P none each cards ls l

@@ -7,7 +7,7 @@ use Rattle.sharing.specs.Rules.{lanes, sum_to}
 use Rattle.sharing.specs.Sums.{sum_same}
 use Rattle.books.specs.Lanes.{Entry}
 use Rattle.books.specs.Entries.{Contents, no_shed, no_entry, lane_of, last_shed, last_terms, with_shed, with_lane, blank_entry, with_lot, ranked_entry}
-use Rattle.books.specs.Laid.{shed_of, first_lane, Stands, Ordered}
+use Rattle.books.specs.Laid.{shed_of, first_lane, Stands, LanesOrdered}
 
 -- a sum over more sheds
 pub sum_longer : (f : ℕ → ℕ) (m n : ℕ) → m ≤ n → sum_to f m ≤ sum_to f n
@@ -42,7 +42,7 @@ recorded_on c l m lot here there =
 stands_on : (c w : Contents) (e : Entry) (l : ℕ) → length c.sheds ≤ length w.sheds → first_lane w e.shed ≡ first_lane c e.shed → lanes (shed_of c e.shed) ≤ lanes (shed_of w e.shed) → Stands c e l → Stands w e l
 stands_on c w e l wide same lost stands = (omega (arith, stands.0), omega (arith, stands.1), omega (arith, stands.2))
 
-pub ordered_shed : (c : Contents) (limit : ℕ) → Ordered c → Ordered (with_shed c limit)
+pub ordered_shed : (c : Contents) (limit : ℕ) → LanesOrdered c → LanesOrdered (with_shed c limit)
 ordered_shed c limit o =
     let w = with_shed c limit in
     let new : Terms = record { shed = length c.sheds; limit = limit; capacities = []; targets = [] } in
@@ -62,7 +62,7 @@ ordered_shed c limit o =
       );
     }
 
-pub ordered_lane : (c : Contents) (target capacity : ℕ) → 0 < length c.sheds → Ordered c → Ordered (with_lane c target capacity)
+pub ordered_lane : (c : Contents) (target capacity : ℕ) → 0 < length c.sheds → LanesOrdered c → LanesOrdered (with_lane c target capacity)
 ordered_lane c target capacity some o =
     let w = with_lane c target capacity in
     let at = last_shed c in
@@ -93,7 +93,7 @@ ordered_lane c target capacity some o =
     }
 
 -- another entry for a lane, at the same place
-pub ordered_entry : (c : Contents) (l : ℕ) (e : Entry) → l < length c.lanes → e.shed ≡ (lane_of c l).shed → e.place ≡ (lane_of c l).place → Ordered c → Ordered (record { sheds = c.sheds; lanes = set c.lanes l e })
+pub ordered_entry : (c : Contents) (l : ℕ) (e : Entry) → l < length c.lanes → e.shed ≡ (lane_of c l).shed → e.place ≡ (lane_of c l).place → LanesOrdered c → LanesOrdered (record { sheds = c.sheds; lanes = set c.lanes l e })
 ordered_entry c l e h shed place o =
     let same = length-set c.lanes l e in
     let here : Stands c e l =

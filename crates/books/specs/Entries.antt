@@ -5,6 +5,7 @@ use Rattle.sharing.specs.Cards.{Terms, terms, more_terms}
 use Rattle.books.specs.declared.lane.Lane.{Lane}
 use Rattle.books.specs.Lanes.{Entry, lots_in}
 
+-- what a lane says
 abbrev pub entry : Lane → Entry
 entry l = record { shed = l.shed; place = l.place; recorded = is_some l.ranking; ranking = lots_in l.ranking }
 
@@ -13,8 +14,9 @@ pub record Contents : Type 0 where
   pub sheds : List Terms
   pub lanes : List Entry
 
-abbrev pub shown : List Card → List Lane → Contents
-shown cards lanes = record { sheds = map terms cards; lanes = map entry lanes }
+-- what cards and lanes say together
+abbrev pub contents_of : List Card → List Lane → Contents
+contents_of cards lanes = record { sheds = map terms cards; lanes = map entry lanes }
 
 -- no shed, no lane
 abbrev pub nothing : Contents

@@ -19,8 +19,9 @@ first_lane c g = sum_to (λ k. lanes (shed_of c k)) g
 abbrev pub Stands : Contents → Entry → ℕ → Type 0
 Stands c e l = (e.shed < length c.sheds) × (e.place < lanes (shed_of c e.shed)) × (first_lane c e.shed + e.place ≡ l)
 
--- each lane stands at its number, and no place on a card is without its lane
-pub record Ordered (c : Contents) : Type 0 where
+-- each lane stands at its number, and no place on a card is without its lane: what the type of a book carries of what is laid
+-- out below
+pub record LanesOrdered (c : Contents) : Type 0 where
   pub lanes_stand : (l : ℕ) → l < length c.lanes → Stands c (lane_of c l) l
   pub all_lanes : first_lane c (length c.sheds) ≡ length c.lanes
 

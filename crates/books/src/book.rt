@@ -1,6 +1,6 @@
 ghost use Rattle.std.specs.Prelude.{◌≤◌, length};
-ghost use Rattle.books.specs.Entries.{shown};
-ghost use Rattle.books.specs.Laid.{Ordered};
+ghost use Rattle.books.specs.Entries.{contents_of};
+ghost use Rattle.books.specs.Laid.{LanesOrdered};
 
 use crate::lane::Lane;
 use rows::row::Row;
@@ -19,5 +19,5 @@ pub struct Book {
     lanes: Row<Lane, 32>,
     ghost few_sheds: { length cards.items ≤ 8 },
     ghost few_lanes: { length lanes.items ≤ 32 },
-    ghost ordered: { Ordered (shown cards.items lanes.items) },
+    ghost ordered: { LanesOrdered (contents_of cards.items lanes.items) },
 }

@@ -2,8 +2,8 @@
 use Rattle.std.specs.Prelude.{ℕ, List, refl}
 use Rattle.std.specs.Coded.{Coded, code_by, coded×, coded_list, coded_ℕ}
 
--- the items of a row in order; beside them what stands in its unused places and how many places are used, of which no
--- clause says anything: the row gets its fields back from all three
+-- the items of a row in order; beside them what stands in its unused places and how many places are used. Clauses speak of
+-- the items alone, but where a row is as it was; the row gets its fields back from all three
 pub record Listed (T : Type 0) : Type 0 where
   pub items : List T
   pub spare : List T
