@@ -20,14 +20,12 @@ impl fmt::Display for ListLine<'_> {
 
     fn fmt<W: fmt::Write>(&self, f: &mut fmt::Formatter<W>) -> fmt::Result {
         let lot = self.lot;
-        let Some(first) = self.list.get(0) else {
+        let Some((first, rest)) = self.list.lanes().split_first() else {
             return write!(f, "  lot {lot}: no wishes");
         };
         write!(f, "  lot {lot}: wishes {first}")?;
-        for place in 1..self.list.len() {
-            if let Some(lane) = self.list.get(place) {
-                write!(f, ", {lane}")?;
-            }
+        for lane in rest {
+            write!(f, ", {lane}")?;
         }
         Ok(())
     }
