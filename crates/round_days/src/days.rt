@@ -171,7 +171,8 @@ pub(crate) fn pass(rt: &impl Abort, sheet: &[u32], steps: &[Step<'_>]) -> Result
 // The list has these lanes in this order.
 fn is_list(list: &Wishes, lanes: &[u8]) -> bool {
     let mut places = lanes.iter().enumerate();
-    list.len() == lanes.len()
+    list.lanes() == lanes
+        && list.len() == lanes.len()
         && places.all(|(place, lane)| list.get(place) == Some(*lane) && list.has(*lane))
         && list.get(lanes.len()).is_none()
 }
@@ -191,9 +192,7 @@ pub(crate) fn has_list<R: SharingRule>(
 // The same list, or none in both.
 fn same_list(one: Option<Wishes>, other: Option<Wishes>) -> bool {
     match (one, other) {
-        (Some(one), Some(other)) => {
-            one.len() == other.len() && (0..12).all(|place| one.get(place) == other.get(place))
-        }
+        (Some(one), Some(other)) => one.lanes() == other.lanes(),
         (None, None) => true,
         _ => false,
     }

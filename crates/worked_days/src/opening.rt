@@ -56,6 +56,7 @@ pub(crate) fn refused(
 
 // In the book the lane ranks these lots in this order and no other.
 fn has_ranking(rt: &impl Abort, book: &Book, lane: usize, lots: &[u8]) {
+    assert_eq!(rt; book.ranking(lane), lots);
     assert_eq!(rt; book.ranked(lane), Some(lots.len()));
     for (place, lot) in lots.iter().enumerate() {
         assert_eq!(rt; book.lot(lane, place), Some(*lot));
