@@ -8,7 +8,6 @@ use Rattle.books.specs.Opening.{opening, left}
 use Rattle.rounds.specs.declared.round.Round.{Round}
 use Rattle.boards.specs.Boards.{Board, begun, slip_of, entered}
 use Rattle.boards.specs.Calls.{enters, Reached, entered_lots}
-use Rattle.rounds.specs.Tables.{board}
 use Rattle.days.specs.Input.{Day, day_of, in_day}
 
 -- does a new slip begin here: no word is left, or the next one is of kind 5?
@@ -50,7 +49,7 @@ day_board bs = elim (day_of bs) [ Err f ↦ Err f | Ok d ↦ day_round d ]
 
 -- what a round says
 abbrev pub board_in : {R : Type 0} → Result (Round R) Fault → Result Board Fault
-board_in (Ok r) = Ok (board r.table)
+board_in (Ok r) = Ok r.board
 board_in (Err f) = Err f
 
 -- an accepted round has this rule

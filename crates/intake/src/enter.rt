@@ -1,7 +1,6 @@
 ghost use Rattle.std.specs.Prelude.{◌≡◌, ◌+◌, ◌^◌, ◌<◌, length, is_some, IfErr};
 ghost use Rattle.boards.specs.Calls.{entered_lots};
 ghost use Rattle.boards.specs.Slips.{list_at};
-ghost use Rattle.rounds.specs.Tables.{board};
 ghost use Rattle.intake.specs.Slips.{cut, answer_at, enter_all, day_board, board_in, HasRule, EntersSlips, LotForEachSlip};
 
 use books::book::Book;
@@ -24,7 +23,7 @@ fn in_day_at(answer: Result<u8, Fault>, place: usize) -> Result<u8, Fault>
 // Enters the slips of a day, one after the other, into a round, until one is refused. A refusal is told at its place in
 // the input, where the slips stand behind the number of book words and the book.
 fn enter_slips<R: SharingRule + Drop>(mut round: Round<R>, day: DayWords) -> Result<Round<R>, Fault>
-    ensures board { board_in result ≡ enter_all (1 + length day.entry.book.now) (board round.table) (cut day.entry.slips.now) }
+    ensures board { board_in result ≡ enter_all (1 + length day.entry.book.now) round.board (cut day.entry.slips.now) }
     ensures rule { HasRule round.rule result }
 {
     let first = 1 + day.book.len();
@@ -52,14 +51,14 @@ pub fn enter_day<R: SharingRule + Drop>(bytes: &[u8], rule: R) -> Result<Round<R
 
 // Has a slip entered the lot?
 fn is_entered<R: SharingRule>(round: &Round<R>, lot: usize) -> bool
-    ensures { result ≡ is_some (list_at (board round.now.table).lists lot) }
+    ensures { result ≡ is_some (list_at round.now.board.lists lot) }
 {
     round.list(lot).is_some()
 }
 
 // How many slips were entered into a round: each has entered a lot of its own.
 pub fn slip_count<R: SharingRule>(round: &Round<R>) -> usize
-    ensures { result ≡ entered_lots (board round.now.table).lists }
+    ensures { result ≡ entered_lots round.now.board.lists }
 {
     (0..256).filter(|lot| is_entered(round, *lot)).count()
 }

@@ -1,3 +1,4 @@
 pub mod Claims
 pub mod Lots
+pub mod OpenRounds
 pub mod Tables

@@ -1,6 +1,5 @@
 ghost use Rattle.std.specs.Prelude.{Some};
 ghost use Rattle.boards.specs.Slips.{list_of};
-ghost use Rattle.rounds.specs.Tables.{board};
 ghost use Rattle.slipview.specs.Slips.{list_line, list_lines};
 
 use boards::wishes::Wishes;
@@ -39,7 +38,7 @@ pub(crate) struct ListLines<'a> {
 }
 
 impl fmt::Display for ListLines<'_> {
-    ghost output = { λ l. Some (list_lines (board l.round.now.table).lists l.lots) };
+    ghost output = { λ l. Some (list_lines l.round.now.board.lists l.lots) };
 
     fn fmt<W: fmt::Write>(&self, f: &mut fmt::Formatter<W>) -> fmt::Result {
         for lot in 0..self.lots {

@@ -1,10 +1,9 @@
-use Rattle.std.proofs.Common.{◌≡◌, ℕ, ◌+◌, ◌^◌, ◌<◌, ◌≤◌, List, length, drop, Some, Ok, Err, Result, IfErr, sym, refl, ap, ◌∙◌, subst, arith}
+use Rattle.std.proofs.Common.{◌≡◌, ℕ, ◌+◌, ◌-◌, ◌^◌, ◌<◌, ◌≤◌, List, length, drop, Some, Ok, Err, Result, IfErr, sym, refl, ap, ◌∙◌, subst, arith}
 use Rattle.std.proofs.lemmas.Result.{err_from_is_err_and}
 use Rattle.sheets.specs.declared.reader.Part.{Part}
 use Rattle.sheets.specs.declared.fault.Fault.{Fault}
 use Rattle.sheets.specs.Records.{page, next_slip}
 use Rattle.boards.specs.Boards.{Board, slip_of, lot_of}
-use Rattle.rounds.specs.Tables.{board}
 use Rattle.intake.specs.Slips.{cut, in_day_at, answer_at, enter_all}
 use Rattle.intake.proofs.Cuts.{Next, next_slip_is}
 use Rattle.intake.proofs.Entries.{refused_within, slip_refused, slip_entered}
@@ -25,7 +24,7 @@ pub loop-slip-init : goal.loop-slip-init
 loop-slip-init g c =
     let slips = c.args.day.slips.now in
     let first = 1 + length c.args.day.book.now in
-    let s = board c.args.round.table in
+    let s = c.args.round.board in
     let none : first + 0 ≡ first = omega arith in
     record {
       words = c.new-reader.ensures.words;
@@ -61,7 +60,21 @@ in_day_at-requires g c =
     let hand = handed r.words.now end.words.now slips r.at end.at slip c.loop-slip.invariant.words got.words got.part got.at end.within in
     let place = hand.next.place in
     let within = hand.within in
-    refusal_fits (board c.loop-slip.round.table) slip.words.now c.enter.result _ c.enter.ensures.answer (omega (arith, c.loop-slip.invariant.room))
+    refusal_fits c.loop-slip.round.board slip.words.now c.enter.result _ c.enter.ensures.answer (omega (arith, c.loop-slip.invariant.room))
+
+-- behind a slip fewer words are left
+fewer_left : (n at end k : ℕ) → end ≡ at + k → 1 ≤ k → at + k ≤ n → n - end < n - at
+fewer_left n at end k e some within = omega (arith, e, some, within)
+
+pub loop-slip-smaller : goal.loop-slip-smaller
+loop-slip-smaller g c =
+    let r = c.loop-slip.reader in
+    let slips = c.args.day.slips.now in
+    let slip = c.in-Some.slip in
+    let got = c.in-Some.ensures in
+    let end = c.next_slip.new.self in
+    let hand = handed r.words.now end.words.now slips r.at end.at slip c.loop-slip.invariant.words got.words got.part got.at end.within in
+    fewer_left (length slips) r.at end.at (length slip.words.now) got.at hand.next.some hand.within
 
 -- what a call answered, by its answer in the whole input
 kept_answer : (place : ℕ) (r : Result ℕ Fault) (x : ℕ) → Ok x ≡ answer_at place r → Ok x ≡ r
@@ -81,8 +94,8 @@ loop-slip-preserved g c =
     let got = c.in-Some.ensures in
     let end = c.next_slip.new.self in
     let hand = handed r.words.now end.words.now slips r.at end.at slip c.loop-slip.invariant.words got.words got.part got.at end.within in
-    let s = board c.loop-slip.round.table in
-    let t = board c.enter.new.self.table in
+    let s = c.loop-slip.round.board in
+    let t = c.enter.new.self.board in
     let entered = slip_entered first r.at s slips (page slip) hand.next c.in_ok-in_day_at.field-0 (kept_answer (first + slip.place) c.enter.result c.in_ok-in_day_at.field-0 c.in_ok-in_day_at.ensures ∙ c.enter.ensures.answer) in
     record {
       words = got.words ∙ c.loop-slip.invariant.words;
@@ -104,7 +117,7 @@ returns-in_err-in_day_at-clause-board g c =
     let got = c.in-Some.ensures in
     let end = c.next_slip.new.self in
     let hand = handed r.words.now end.words.now slips r.at end.at slip c.loop-slip.invariant.words got.words got.part got.at end.within in
-    let s = board c.loop-slip.round.table in
+    let s = c.loop-slip.round.board in
     let found = told_fault (first + slip.place) c.enter.result c.in_err-in_day_at.field-0.0 c.in_err-in_day_at.ensures in
     let refused = (refused_within s slip.words.now found.0 (sym found.1 ∙ c.enter.ensures.answer)).0 in
     let out = err_from_is_err_and c.from_residual.result c.from_residual.ensures.1 in

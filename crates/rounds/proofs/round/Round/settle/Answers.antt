@@ -1,6 +1,6 @@
-use Rattle.std.proofs.Common.{ℕ, ◌*◌, ◌≤◌, sym, subst}
+use Rattle.std.proofs.Common.{sym, subst}
 use Rattle.books.proofs.Laid.{book_laid}
-use Rattle.boards.specs.Calls.{settles, Quiet, SettlesLeast, entered_lots}
+use Rattle.boards.specs.Calls.{settles, Quiet, SettlesLeast}
 use Rattle.rounds.specs.Tables.{board}
 use Rattle.boards.proofs.CallsRun.{goes_on, settled_quiet, settles_least, settle_few}
 use Rattle.rounds.proofs.FormedTables.{formed}
@@ -8,23 +8,25 @@ use Rattle.rounds.proofs.round.Round.settle.Goals as goal
 
 pub returns-clause-few : goal.returns-clause-few
 returns-clause-few g c =
-    let r = c.args.self.now in
-    let s = board r.table in
-    subst (λ (n : ℕ). n ≤ 12 * entered_lots s.lists) (sym c.settle.ensures.answer) (settle_few (g.R.SharingRule.meaning r.rule) (g.met.R.SharingRule.lawful r.rule) s (formed r.table))
+    let r = c.self.inside in
+    rw (← c.self.view_is, c.settle.ensures.answer)
+    (settle_few (g.R.SharingRule.meaning r.rule) (g.met.R.SharingRule.lawful r.rule) (board r.table) (formed r.table))
 
 pub returns-clause-quiet : goal.returns-clause-quiet
 returns-clause-quiet g c =
-    let r = c.args.self.now in
-    subst Quiet (sym c.settle.ensures.board) (settled_quiet (g.R.SharingRule.meaning r.rule) (g.met.R.SharingRule.lawful r.rule) (board r.table) (formed r.table))
+    let r = c.self.inside in
+    subst Quiet (sym c.settle.ensures.board)
+    (settled_quiet (g.R.SharingRule.meaning r.rule) (g.met.R.SharingRule.lawful r.rule) (board r.table) (formed r.table))
 
 pub returns-clause-goes_on : goal.returns-clause-goes_on
 returns-clause-goes_on g c =
-    let r = c.args.self.now in
-    goes_on (g.R.SharingRule.meaning r.rule) (g.met.R.SharingRule.lawful r.rule) (board r.table) (book_laid r.table.book) settles (board c.settle.new.self) c.settle.ensures.board
+    let r = c.self.inside in
+    rw (← c.self.view_is)
+    (goes_on (g.R.SharingRule.meaning r.rule) (g.met.R.SharingRule.lawful r.rule) (board r.table) (book_laid r.table.book) settles (board c.settle.new.self) c.settle.ensures.board)
 
 pub returns-clause-least : goal.returns-clause-least
 returns-clause-least g c =
-    let r = c.args.self.now in
-    let m = g.R.SharingRule.meaning r.rule in
-    let s = board r.table in
-    subst (SettlesLeast m s) (sym c.settle.ensures.board) (settles_least m (g.met.R.SharingRule.lawful r.rule) s (formed r.table))
+    let r = c.self.inside in
+    rw (← c.self.view_is)
+    (subst (SettlesLeast (g.R.SharingRule.meaning r.rule) (board r.table)) (sym c.settle.ensures.board)
+    (settles_least (g.R.SharingRule.meaning r.rule) (g.met.R.SharingRule.lawful r.rule) (board r.table) (formed r.table)))
