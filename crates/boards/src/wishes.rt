@@ -6,7 +6,7 @@ pub mod list;
 pub mod read;
 
 // A list has room for so many wishes.
-pub const MOST_WISHES: usize = 12;
+pub(crate) const MOST_WISHES: usize = 12;
 
 // A lot's list: the lanes that it wants, the most wanted first.
 #[derive(Clone, Copy)]

@@ -13,7 +13,7 @@ use sheets::fault::Fault;
 use sheets::reader::Reader;
 
 // What words answer that stand in the input from a place on: a fault is told at its place in the input.
-fn in_day_at(answer: Result<u8, Fault>, place: usize) -> Result<u8, Fault>
+fn answer_at(answer: Result<u8, Fault>, place: usize) -> Result<u8, Fault>
     requires { IfErr answer (λ fault. place + fault.place < 2 ^ 64) }
     ensures { result ≡ answer_at place answer }
 {
@@ -29,7 +29,7 @@ fn enter_slips<R: SharingRule + Drop>(mut round: Round<R>, day: DayWords) -> Res
     let first = 1 + day.book.len();
     let mut reader = Reader::new(day.slips);
     while let Some(slip) = reader.next_slip() {
-        in_day_at(round.enter(slip.words), first + slip.place)?;
+        answer_at(round.enter(slip.words), first + slip.place)?;
     }
     Ok(round)
 }

@@ -3,7 +3,7 @@ use Rattle.books.proofs.Laid.{book_laid}
 use Rattle.rounds.specs.declared.table.Table.{Table}
 use Rattle.boards.specs.Boards.{Board}
 use Rattle.boards.specs.Formed.{Formed}
-use Rattle.rounds.specs.Lots.{Facts}
+use Rattle.rounds.specs.Lots.{RoundFacts}
 use Rattle.rounds.specs.Tables.{board}
 use Rattle.boards.proofs.CallsRun.{held_known}
 
@@ -20,7 +20,7 @@ formed t = record {
   counted = t.facts.counted;
 }
 
-pub facts : (s : Board) → Formed s → Facts s
+pub facts : (s : Board) → Formed s → RoundFacts s
 facts s v = record {
   lists_lawful = (v.every_list, v.known, v.once, v.few);
   lines_fit = (v.every_line, v.fit_lists);

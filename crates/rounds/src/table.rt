@@ -1,4 +1,4 @@
-ghost use Rattle.rounds.specs.Lots.{board_from, Facts};
+ghost use Rattle.rounds.specs.Lots.{board_from, RoundFacts};
 
 use crate::lots::Lots;
 use crate::table::leaver::Application;
@@ -16,7 +16,7 @@ mod leaver;
 pub struct Table {
     book: Book,
     lots: Lots,
-    ghost facts: { Facts (board_from book lots) },
+    ghost facts: { RoundFacts (board_from book lots) },
 }
 
 impl Table {

@@ -26,7 +26,8 @@ impl Wishes {
         if self.has(lane) {
             return Err(Refusal::Twice);
         }
-        self.lanes.push(lane).map_err(|_| Refusal::TooMany)
+        self.lanes.push(lane).unwrap();
+        Ok(())
     }
 
     // One word behind the LOT word, at its place on the slip.

@@ -16,6 +16,7 @@ pub(super) struct AskedShed {
     pub(super) asked: Application,
     // the shed's first lane
     pub(super) first: usize,
+    // how many lanes it has
     pub(super) lanes: usize,
     // how many lots each lane is supplied with, and how many of them it keeps, by its place on the card
     pub(super) supply: [u16; 8],

@@ -50,8 +50,8 @@ overflow_add-first-in-Some g c =
     let within = hand.within in
     omega (arith, c.loop-slip.invariant.room)
 
-pub in_day_at-requires : goal.in_day_at-requires
-in_day_at-requires g c =
+pub answer_at-requires : goal.answer_at-requires
+answer_at-requires g c =
     let r = c.loop-slip.reader in
     let slips = c.args.day.slips.now in
     let slip = c.in-Some.slip in
@@ -96,7 +96,7 @@ loop-slip-preserved g c =
     let hand = handed r.words.now end.words.now slips r.at end.at slip c.loop-slip.invariant.words got.words got.part got.at end.within in
     let s = c.loop-slip.round.board in
     let t = c.enter.new.self.board in
-    let entered = slip_entered first r.at s slips (page slip) hand.next c.in_ok-in_day_at.field-0 (kept_answer (first + slip.place) c.enter.result c.in_ok-in_day_at.field-0 c.in_ok-in_day_at.ensures ∙ c.enter.ensures.answer) in
+    let entered = slip_entered first r.at s slips (page slip) hand.next c.in_ok-answer_at.field-0 (kept_answer (first + slip.place) c.enter.result c.in_ok-answer_at.field-0 c.in_ok-answer_at.ensures ∙ c.enter.ensures.answer) in
     record {
       words = got.words ∙ c.loop-slip.invariant.words;
       rule = c.enter.ensures.rule ∙ c.loop-slip.invariant.rule;
@@ -108,8 +108,8 @@ loop-slip-preserved g c =
           ∙ c.loop-slip.invariant.rest;
     }
 
-pub returns-in_err-in_day_at-clause-board : goal.returns-in_err-in_day_at-clause-board
-returns-in_err-in_day_at-clause-board g c =
+pub returns-in_err-answer_at-clause-board : goal.returns-in_err-answer_at-clause-board
+returns-in_err-answer_at-clause-board g c =
     let r = c.loop-slip.reader in
     let slips = c.args.day.slips.now in
     let first = 1 + length c.args.day.book.now in
@@ -118,7 +118,7 @@ returns-in_err-in_day_at-clause-board g c =
     let end = c.next_slip.new.self in
     let hand = handed r.words.now end.words.now slips r.at end.at slip c.loop-slip.invariant.words got.words got.part got.at end.within in
     let s = c.loop-slip.round.board in
-    let found = told_fault (first + slip.place) c.enter.result c.in_err-in_day_at.field-0.0 c.in_err-in_day_at.ensures in
+    let found = told_fault (first + slip.place) c.enter.result c.in_err-answer_at.field-0.0 c.in_err-answer_at.ensures in
     let refused = (refused_within s slip.words.now found.0 (sym found.1 ∙ c.enter.ensures.answer)).0 in
     let out = err_from_is_err_and c.from_residual.result c.from_residual.ensures.1 in
     rw (out.1, out.2) (

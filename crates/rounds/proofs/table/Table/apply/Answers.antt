@@ -4,7 +4,7 @@ use Rattle.sheets.specs.declared.fault.Fault.{Fault}
 use Rattle.boards.specs.declared.outcome.Outcome.{Outcome}
 use Rattle.boards.specs.Boards.{outcome, application, outcome_of, board_of, apply}
 use Rattle.boards.specs.Searches.{moved}
-use Rattle.rounds.specs.Lots.{board_from, Facts}
+use Rattle.rounds.specs.Lots.{board_from, RoundFacts}
 use Rattle.rounds.specs.Tables.{board}
 use Rattle.boards.proofs.AppliesTo.{gone, applies, idle, applies_below, count_few}
 use Rattle.boards.proofs.CallsRun.{apply_keeps}
@@ -51,7 +51,7 @@ pub invariant_of-self : goal.invariant_of-self
 invariant_of-self g c =
     let t = c.args.self.now in
     let m = g.R.SharingRule.meaning c.args.rule.now in
-    record { facts = subst Facts (sym (left g c)) (facts (apply m (board t) c.args.lot) (apply_keeps m (g.met.R.SharingRule.lawful c.args.rule.now) (board t) (formed t) c.args.lot).0) }
+    record { facts = subst RoundFacts (sym (left g c)) (facts (apply m (board t) c.args.lot) (apply_keeps m (g.met.R.SharingRule.lawful c.args.rule.now) (board t) (formed t) c.args.lot).0) }
 
 pub returns : goal.returns
 returns g c =

@@ -2,7 +2,7 @@ use Rattle.std.proofs.Common.{◌≡◌, ℕ, ◌<◌, ◌≤◌, false, length,
 use Rattle.std.proofs.lemmas.Result.{err_from_is_err_and}
 use Rattle.boards.specs.Slips.{list_of, list_at}
 use Rattle.boards.specs.Boards.{entered, lot_of, slip_of, enter}
-use Rattle.rounds.specs.Lots.{board_from, Facts}
+use Rattle.rounds.specs.Lots.{board_from, RoundFacts}
 use Rattle.rounds.specs.Tables.{board}
 use Rattle.boards.proofs.BoardLists.{slip_unknown, slip_read}
 use Rattle.boards.proofs.FormedEnters.{entered_formed}
@@ -35,7 +35,7 @@ pub invariant_of-self : goal.invariant_of-self
 invariant_of-self c =
     let s = board c.args.self.now in
     let slip = c.args.slip.now in
-    record { facts = subst Facts (sym (left c)) (facts (enter s slip) (entered_formed s (formed c.args.self.now) slip)) }
+    record { facts = subst RoundFacts (sym (left c)) (facts (enter s slip) (entered_formed s (formed c.args.self.now) slip)) }
 
 pub returns : goal.returns
 returns c =
