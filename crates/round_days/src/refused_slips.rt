@@ -21,47 +21,57 @@ pub(crate) fn refused(
     Ok(())
 }
 
+fn strange(place: usize) -> (u8, usize, Layer) {
+    (2, place, Layer::Word)
+}
+
+fn misplaced(place: usize) -> (u8, usize, Layer) {
+    (3, place, Layer::Record)
+}
+
+fn too_many(place: usize) -> (u8, usize, Layer) {
+    (4, place, Layer::Record)
+}
+
+fn unknown(place: usize) -> (u8, usize, Layer) {
+    (5, place, Layer::Book)
+}
+
+fn twice(place: usize) -> (u8, usize, Layer) {
+    (6, place, Layer::Book)
+}
+
 #[test]
 fn a_word_of_another_kind_or_with_a_stray_bit_is_strange(rt: HostRuntime) -> Result<(), Fail> {
-    refused(&rt, &SHEET, &[0x40000001], (2, 0, Layer::Word))?;
-    refused(&rt, &SHEET, &[0x50001001], (2, 0, Layer::Word))?;
-    refused(&rt, &SHEET, &[0x50000001, 0x70000000], (2, 1, Layer::Word))?;
+    refused(&rt, &SHEET, &[0x40000001], strange(0))?;
+    refused(&rt, &SHEET, &[0x50001001], strange(0))?;
+    refused(&rt, &SHEET, &[0x50000001, 0x70000000], strange(1))?;
     refused(
         &rt,
         &SHEET,
         &[0x50000001, 0x60000000, 0x60001002],
-        (2, 2, Layer::Word),
+        strange(2),
     )
 }
 
 #[test]
 fn a_slip_with_no_word_is_misplaced(rt: HostRuntime) -> Result<(), Fail> {
-    refused(&rt, &SHEET, &[], (3, 0, Layer::Record))
+    refused(&rt, &SHEET, &[], misplaced(0))
 }
 
 #[test]
 fn a_first_word_that_is_not_lot_is_misplaced(rt: HostRuntime) -> Result<(), Fail> {
-    refused(
-        &rt,
-        &SHEET,
-        &[0x60000000, 0x50000001],
-        (3, 0, Layer::Record),
-    )
+    refused(&rt, &SHEET, &[0x60000000, 0x50000001], misplaced(0))
 }
 
 #[test]
 fn a_later_lot_is_misplaced(rt: HostRuntime) -> Result<(), Fail> {
-    refused(
-        &rt,
-        &SHEET,
-        &[0x50000001, 0x50000001],
-        (3, 1, Layer::Record),
-    )?;
+    refused(&rt, &SHEET, &[0x50000001, 0x50000001], misplaced(1))?;
     refused(
         &rt,
         &SHEET,
         &[0x50000001, 0x60000000, 0x50000002],
-        (3, 2, Layer::Record),
+        misplaced(2),
     )
 }
 
@@ -74,12 +84,7 @@ fn twelve_wishes_are_a_list(rt: HostRuntime) -> Result<(), Fail> {
 
 #[test]
 fn a_thirteenth_wish_is_too_many(rt: HostRuntime) -> Result<(), Fail> {
-    refused(
-        &rt,
-        &four_sheds(),
-        &thirteen_wishes(7),
-        (4, 13, Layer::Record),
-    )
+    refused(&rt, &four_sheds(), &thirteen_wishes(7), too_many(13))
 }
 
 #[test]
@@ -97,8 +102,8 @@ fn lots_0_and_255_are_entered(rt: HostRuntime) -> Result<(), Fail> {
 
 #[test]
 fn a_lot_above_255_is_unknown(rt: HostRuntime) -> Result<(), Fail> {
-    refused(&rt, &SHEET, &[0x50000100], (5, 0, Layer::Book))?;
-    refused(&rt, &SHEET, &[0x50000fff, 0x60000000], (5, 0, Layer::Book))
+    refused(&rt, &SHEET, &[0x50000100], unknown(0))?;
+    refused(&rt, &SHEET, &[0x50000fff, 0x60000000], unknown(0))
 }
 
 // The last of three lanes is lane 2, that of 32 lanes is lane 31.
@@ -118,27 +123,17 @@ fn a_lane_behind_the_last_is_unknown(rt: HostRuntime) -> Result<(), Fail> {
         &rt,
         &SHEET,
         &[0x50000001, 0x60000002, 0x60000003],
-        (5, 2, Layer::Book),
+        unknown(2),
     )?;
-    refused(
-        &rt,
-        &four_sheds(),
-        &[0x50000001, 0x60000020],
-        (5, 1, Layer::Book),
-    )?;
-    refused(
-        &rt,
-        &four_sheds(),
-        &[0x50000001, 0x60000100],
-        (5, 1, Layer::Book),
-    )?;
-    refused(&rt, &[], &[0x50000001, 0x60000000], (5, 1, Layer::Book))
+    refused(&rt, &four_sheds(), &[0x50000001, 0x60000020], unknown(1))?;
+    refused(&rt, &four_sheds(), &[0x50000001, 0x60000100], unknown(1))?;
+    refused(&rt, &[], &[0x50000001, 0x60000000], unknown(1))
 }
 
 #[test]
 fn a_lane_twice_on_a_list_is_twice(rt: HostRuntime) -> Result<(), Fail> {
     let slip = [0x50000001, 0x60000000, 0x60000002, 0x60000000];
-    refused(&rt, &SHEET, &slip, (6, 3, Layer::Book))
+    refused(&rt, &SHEET, &slip, twice(3))
 }
 
 // Whether it looks, is held or is spent, and whatever the slip wishes.
@@ -146,21 +141,21 @@ fn a_lane_twice_on_a_list_is_twice(rt: HostRuntime) -> Result<(), Fail> {
 fn a_lot_that_is_entered_already_is_twice(rt: HostRuntime) -> Result<(), Fail> {
     let steps = [
         Step::Enters(&LOT_1, 1),
-        Step::Refuses(&[0x50000001, 0x60000001], (6, 0, Layer::Book)),
+        Step::Refuses(&[0x50000001, 0x60000001], twice(0)),
         Step::Applies(1, Outcome::Taken, Line::Held { lane: 2 }),
-        Step::Refuses(&LOT_1, (6, 0, Layer::Book)),
+        Step::Refuses(&LOT_1, twice(0)),
         Step::Enters(&[0x50000005], 5),
-        Step::Refuses(&[0x50000005], (6, 0, Layer::Book)),
+        Step::Refuses(&[0x50000005], twice(0)),
     ];
     pass(&rt, &SHEET, &steps)
 }
 
 #[test]
 fn a_refused_slip_between_two_others_moves_nothing(rt: HostRuntime) -> Result<(), Fail> {
-    let unknown = [0x50000003, 0x60000001, 0x60000003];
+    let slip = [0x50000003, 0x60000001, 0x60000003];
     let steps = [
         Step::Enters(&LOT_1, 1),
-        Step::Refuses(&unknown, (5, 2, Layer::Book)),
+        Step::Refuses(&slip, unknown(2)),
         Step::Enters(&LOT_2, 2),
     ];
     let others = [Step::Enters(&LOT_1, 1), Step::Enters(&LOT_2, 2)];
