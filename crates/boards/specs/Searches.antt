@@ -1,10 +1,10 @@
 -- How the code finds who has to go.
 use Rattle.std.specs.Prelude.{ℕ, zero, suc, ◌+◌, Bool, true, false, List, [], ◌∷◌, length, Some, None, Option, ◌==◌, nat_lt, slice_index_or, slice_set}
 use Rattle.std.specs.List.{slice_get}
-use Rattle.sharing.specs.Rules.{at, lanes, Meaning}
+use Rattle.sharing.specs.Rules.{at, Meaning}
 use Rattle.books.specs.Lanes.{has}
 use Rattle.books.specs.Contents.{Contents, lane_of, ranking_of}
-use Rattle.books.specs.Laid.{shed_of, first_lane}
+use Rattle.books.specs.Laid.{shed_of}
 use Rattle.matching.specs.Offers.{Offers}
 use Rattle.boards.specs.declared.line.Line.{Line}
 use Rattle.boards.specs.declared.line.Line.TheVariants.{Absent, Looking, Held, Spent}
@@ -47,9 +47,6 @@ first_of f k (suc n) = elim (f k) [ Some x ↦ Some x | None ↦ first_of f (suc
 -- at a lane of the shed that keeps fewer than it is supplied with, the first lot behind the kept ones
 abbrev pub beyond_at : Contents → Offers → ℕ → List ℕ → List ℕ → ℕ → Option ℕ
 beyond_at c O first x k j = elim (nat_lt (at k j) (at x j)) [ true ↦ beyond (at k j) (O (first + j)) (ranking_of c (first + j)) | false ↦ None ]
-
-abbrev pub beyond_shed : Contents → Offers → ℕ → List ℕ → List ℕ → Option ℕ
-beyond_shed c O g x k = first_of (beyond_at c O (first_lane c g) x k) 0 (lanes (shed_of c g))
 
 -- the next wish of a looking lot; none of any other
 abbrev pub next_wish : Line → List ℕ → Option ℕ
