@@ -6,6 +6,9 @@ use Rattle.boards.proofs.CallsRun.{goes_on, settled_quiet, settles_least, settle
 use Rattle.rounds.proofs.FormedTables.{formed}
 use Rattle.rounds.proofs.round.Round.settle.Goals as goal
 
+pub returns-clause-answer : goal.returns-clause-answer
+returns-clause-answer g c = rw (← c.self.view_is) c.settle.ensures.answer
+
 pub returns-clause-few : goal.returns-clause-few
 returns-clause-few g c =
     let r = c.self.inside in
