@@ -43,10 +43,7 @@ impl Lane {
         ensures value { result.now ≡ (entry self.now).ranking }
         ensures few { length result.now ≤ 256 }
     {
-        match &self.ranking {
-            Some(lots) => &lots[..],
-            None => &[],
-        }
+        self.ranking.as_ref().map_or(&[], |lots| &lots[..])
     }
 
     // A ranking record for it. One that it has goes on.

@@ -189,22 +189,37 @@ pub(crate) fn has_list<R: SharingRule>(
     Ok(())
 }
 
-// The same list, or none in both.
-fn same_list(one: Option<Wishes>, other: Option<Wishes>) -> bool {
-    match (one, other) {
-        (Some(one), Some(other)) => one.lanes() == other.lanes(),
-        (None, None) => true,
-        _ => false,
-    }
-}
-
 // The two rounds say the same of every lot, and have the same count.
 pub(crate) fn alike<R: SharingRule>(rt: &impl Abort, one: &Round<R>, other: &Round<R>) {
     for lot in 0..257usize {
         assert_eq!(rt; one.line(lot), other.line(lot), "{}", lot);
-        assert!(rt; same_list(one.list(lot), other.list(lot)), "{}", lot);
+        let (ours, theirs) = (one.list(lot), other.list(lot));
+        let same = ours.as_ref().map(|list| list.lanes())
+            == theirs.as_ref().map(|list| list.lanes());
+        assert!(rt; same, "{}", lot);
     }
     assert_eq!(rt; one.count(), other.count());
+}
+
+// The faults of a slip at a place: their numbers and layers.
+pub(crate) fn strange(place: usize) -> (u8, usize, Layer) {
+    (2, place, Layer::Word)
+}
+
+pub(crate) fn misplaced(place: usize) -> (u8, usize, Layer) {
+    (3, place, Layer::Record)
+}
+
+pub(crate) fn too_many(place: usize) -> (u8, usize, Layer) {
+    (4, place, Layer::Record)
+}
+
+pub(crate) fn unknown(place: usize) -> (u8, usize, Layer) {
+    (5, place, Layer::Book)
+}
+
+pub(crate) fn twice(place: usize) -> (u8, usize, Layer) {
+    (6, place, Layer::Book)
 }
 
 // Four sheds of eight lanes, and no ranking.

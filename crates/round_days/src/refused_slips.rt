@@ -1,6 +1,6 @@
 use crate::days::{
-    LOT_1, LOT_2, SHEET, Step, after, alike, by_turns, four_sheds, has_list, makes, pass,
-    thirteen_wishes,
+    LOT_1, LOT_2, SHEET, Step, after, alike, by_turns, four_sheds, has_list, makes, misplaced,
+    pass, strange, thirteen_wishes, too_many, twice, unknown,
 };
 use boards::line::Line;
 use boards::outcome::Outcome;
@@ -19,26 +19,6 @@ pub(crate) fn refused(
     makes(rt, &mut round, Step::Refuses(slip, fault))?;
     alike(rt, &round, &by_turns(sheet)?);
     Ok(())
-}
-
-fn strange(place: usize) -> (u8, usize, Layer) {
-    (2, place, Layer::Word)
-}
-
-fn misplaced(place: usize) -> (u8, usize, Layer) {
-    (3, place, Layer::Record)
-}
-
-fn too_many(place: usize) -> (u8, usize, Layer) {
-    (4, place, Layer::Record)
-}
-
-fn unknown(place: usize) -> (u8, usize, Layer) {
-    (5, place, Layer::Book)
-}
-
-fn twice(place: usize) -> (u8, usize, Layer) {
-    (6, place, Layer::Book)
 }
 
 #[test]

@@ -33,10 +33,7 @@ impl Book {
     pub fn ranking(&self, lane: usize) -> &[u8]
         ensures { result.now ≡ ranking_of (contents self.now) lane }
     {
-        match self.lanes.get(lane) {
-            Some(lane) => lane.lots(),
-            None => &[],
-        }
+        self.lanes.get(lane).map_or(&[], |lane| lane.lots())
     }
 
     // The lot at a place of a lane's ranking, the best at 0; none behind the last, and if the lane is not in the book.
