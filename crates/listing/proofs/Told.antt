@@ -13,9 +13,10 @@ use Rattle.books.specs.Laid.{shed_of}
 use Rattle.listing.specs.Lines.{told_in}
 use Rattle.listing.specs.declared.lane.LaneLine.{LaneLine}
 
-pub told_is : (c : Contents) (g l : ℕ) (t : Terms) (place ranked : ℕ) → Some g ≡ option_map (λ (e : Entry). e.shed) (slice_get c.lanes l) → Some t ≡ slice_get c.sheds g →
+pub told_is : (c : Contents) (g l : ℕ) (t : Terms) (place ranked target capacity : ℕ) → target ≡ at t.targets place → capacity ≡ at t.capacities place →
+    Some g ≡ option_map (λ (e : Entry). e.shed) (slice_get c.lanes l) → Some t ≡ slice_get c.sheds g →
     Some place ≡ option_map (λ (e : Entry). e.place) (slice_get c.lanes l) → Some ranked ≡ option_map (λ (e : Entry). length e.ranking) (slice_get c.lanes l) →
-    ◌≡◌ {A = Option LaneLine} (Some (record { lane = l; target = at t.targets place; capacity = at t.capacities place; ranked = ranked })) (told_in c g l)
-told_is c g l t place ranked s k p r =
+    ◌≡◌ {A = Option LaneLine} (Some (record { lane = l; target = target; capacity = capacity; ranked = ranked })) (told_in c g l)
+told_is c g l t place ranked target capacity of_target of_capacity s k p r =
     let card : shed_of c g ≡ t = get_or_from_slice_get c.sheds g t no_shed (sym k) in
-    grind (arith, common_steps)
+    rw (of_target, of_capacity) (grind (arith, common_steps))
