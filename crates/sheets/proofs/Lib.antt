@@ -1,2 +1,4 @@
 pub mod Admits
+pub mod Parts
 pub mod Passes
+pub mod Runs
