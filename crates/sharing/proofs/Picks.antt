@@ -1,9 +1,10 @@
 -- The lane that is picked is that of the first of all next places, and has room.
-use Rattle.std.proofs.Common.{◌≡◌, ℕ, zero, suc, ◌+◌, ◌-◌, ◌<◌, ◌≤◌, true, false, ◌&&◌, nat_lt, List, [], ◌∷◌, ◌++◌, set, IfSome, Some, None, Option, fold, sym, refl, ap, ◌∙◌, subst, arith, add-one, if◌then◌else◌}
+use Rattle.std.proofs.Common.{◌≡◌, ℕ, zero, suc, ◌+◌, ◌-◌, ◌<◌, ◌≤◌, true, false, ◌&&◌, ltb, nat_lt, List, [], ◌∷◌, ◌++◌, set, IfSome, Some, None, Option, fold, sym, refl, ap, ◌∙◌, subst, arith, add-one, if◌then◌else◌}
 use denote.Param.Members.{Mut, Called}
 use Rattle.std.proofs.iter.Yields.{gives_Drains}
 use Rattle.std.specs.Iterator.{Drains}
 use Rattle.std.specs.List.{range_with_len, reduce, filter_map, cons_option, FoldsTo}
+use Rattle.std.proofs.lemmas.Bool.{and_parts, ltb-true}
 use Rattle.std.proofs.lemmas.Fn.{fold_same}
 use Rattle.std.proofs.lemmas.Iterator.{YieldsList}
 use Rattle.std.proofs.lemmas.List.{map-id, append-nil}
@@ -39,6 +40,29 @@ reduced {steps} {s} {all} g h {f} (Some y) d e k =
     ap Some folded ∙ ap (reduce h) (sym (map-id (d.0 ∷ d.1)) ∙ gives_Drains steps (λ x. x) (d.0 ∷ d.1) all s e.runs d.3)
 
 module _ (s : Standing) (c : Terms) (x k : List ℕ) where
+  abbrev Roomy : ℕ → Option ℕ → Type 0
+  Roomy n t = IfSome t (λ b. (b < n) × (at k b < places c x b))
+
+  roomier : (n : ℕ) (t : Option ℕ) → Roomy n t → Roomy (suc n) t
+  roomier n None r = r
+  roomier n (Some b) r = (omega (arith, r.0), r.1)
+
+  -- the lane that is picked has room, in whatever order the places stand
+  pub picks_room : (n : ℕ) → IfSome (pick s c x k n) (λ b. (b < n) × (at k b < places c x b))
+  picks_room zero = tt
+  picks_room (suc n) =
+      (elim (ltb (at k n) (places c x n) && better s c k n (pick s c x k n)) as (λ v. (ltb (at k n) (places c x n) && better s c k n (pick s c x k n)) ≡ v → Roomy (suc n) (elim v [ true ↦ Some n | false ↦ pick s c x k n ])) [
+        | true ↦ λ e. (omega arith, ltb-true (at k n) (places c x n) (and_parts (ltb (at k n) (places c x n)) (better s c k n (pick s c x k n)) e).0)
+        | false ↦ λ e. roomier n (pick s c x k n) (picks_room n)
+      ]) refl
+
+  -- it is one of eight, and keeps less than the largest capacity
+  pub small_room : lanes c ≤ 8 → ((l : ℕ) → at c.capacities l ≤ 4095) → (n : ℕ) (t : Option ℕ) → t ≡ pick s c x k n → n ≤ lanes c → IfSome t (λ b. (b < 8) × (at k b < 4095))
+  small_room few small n None e h = tt
+  small_room few small n (Some b) e h =
+      let r = subst (λ t. Roomy n t) (sym e) (picks_room n) in
+      (omega (arith, r.0, few), omega (arith, r.1, small b))
+
   -- the next place of one lane more
   joins : (n : ℕ) (t : Option ℕ) → Some (elim (option_map (place_after k) t) [ None ↦ place_after k n | Some p ↦ earlier s c p (place_after k n) ]) ≡ option_map (place_after k) (elim (better s c k n t) [ true ↦ Some n | false ↦ t ])
   joins n None = refl
@@ -65,12 +89,24 @@ module _ (s : Standing) (c : Terms) (x k : List ℕ) where
       room None h = tt
       room (Some b) h = (omega (arith, few, h.0), omega (arith, h.1, small b))
 
-  -- one place less to deal out
-  pub deal_more : (most i : ℕ) (p : Place) → i < most → Some p ≡ option_map (place_after k) (pick s c x k (lanes c)) → deal s c x (most - i) k ≡ deal s c x (most - (i + 1)) (set k p.lane (at k p.lane + 1))
-  deal_more most i p h e =
+  -- one place less to deal out, by the next place
+  pub deal_next : (most i : ℕ) (p : Place) → i < most → Some p ≡ option_map (place_after k) (pick s c x k (lanes c)) → deal s c x (most - i) k ≡ deal s c x (most - (i + 1)) (set k p.lane (at k p.lane + 1))
+  deal_next most i p h e =
       let step : most - i ≡ suc (most - (i + 1)) = omega arith in
       ap (λ n. deal s c x n k) step ∙ dealt (pick s c x k (lanes c)) e
     where
       dealt : (t : Option ℕ) → Some p ≡ option_map (place_after k) t → elim t [ None ↦ k | Some b ↦ deal s c x (most - (i + 1)) (set k b (at k b + 1)) ] ≡ deal s c x (most - (i + 1)) (set k p.lane (at k p.lane + 1))
       dealt None e = absurd (cc)
       dealt (Some b) e = let same : p ≡ place_after k b = cc in ap (λ (q : Place). deal s c x (most - (i + 1)) (set k q.lane (at k q.lane + 1))) (sym same)
+
+-- one place less to deal out
+pub deal_more : (s : Standing) (c : Terms) (x k : List ℕ) (most i b : ℕ) → i < most → pick s c x k (lanes c) ≡ Some b → deal s c x (most - i) k ≡ deal s c x (most - (i + 1)) (set k b (at k b + 1))
+deal_more s c x k most i b h e =
+    let step : most - i ≡ suc (most - (i + 1)) = omega arith in
+    ap (λ n. deal s c x n k) step ∙ ap (λ t. elim t [ None ↦ k | Some b ↦ deal s c x (most - (i + 1)) (set k b (at k b + 1)) ]) e
+
+-- where no lane has room, nothing more is dealt out
+pub deal_none : (s : Standing) (c : Terms) (x k : List ℕ) (most i : ℕ) → i < most → pick s c x k (lanes c) ≡ None → deal s c x (most - i) k ≡ k
+deal_none s c x k most i h e =
+    let step : most - i ≡ suc (most - (i + 1)) = omega arith in
+    ap (λ n. deal s c x n k) step ∙ ap (λ t. elim t [ None ↦ k | Some b ↦ deal s c x (most - (i + 1)) (set k b (at k b + 1)) ]) e

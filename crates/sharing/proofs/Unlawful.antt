@@ -1,11 +1,34 @@
 -- All to the longest queue breaks the substitutes law.
-use Rattle.std.proofs.Common.{ℕ, zero, suc, ◌<◌, ◌≤◌, min, List, [], ◌∷◌, replicate, refl, arith}
+use Rattle.std.proofs.Common.{◌≡◌, ℕ, zero, suc, ◌≤◌, min, Bool, true, ◌&&◌, leb, List, [], ◌∷◌, get_or, replicate, refl, arith}
+use Rattle.std.proofs.lemmas.Bool.{and_parts, leb-true}
 use Rattle.sharing.specs.declared.card.Card.{Card}
 use Rattle.sharing.specs.declared.card.CardLane.{CardLane}
 use Rattle.sharing.specs.Cards.{terms}
-use Rattle.sharing.specs.Rules.{at, Small}
-use Rattle.sharing.specs.Sums.{at-zeros}
+use Rattle.sharing.specs.Rules.{Small}
 use Rattle.sharing.specs.Longest.{LongestQueueUnlawful}
+
+-- is every number of a row at most that of another, where a row goes on with zeros?
+abbrev is_row_below : List ℕ → List ℕ → Bool
+is_row_below [] ys = true
+is_row_below (x ∷ xs) [] = leb x 0 && is_row_below xs []
+is_row_below (x ∷ xs) (y ∷ ys) = leb x y && is_row_below xs ys
+
+row_below : (xs ys : List ℕ) → is_row_below xs ys ≡ true → (k : ℕ) → get_or xs k 0 ≤ get_or ys k 0
+row_below [] ys e k = omega arith
+row_below (x ∷ xs) [] e zero = leb-true x 0 (and_parts (leb x 0) (is_row_below xs []) e).0
+row_below (x ∷ xs) [] e (suc k) = row_below xs [] (and_parts (leb x 0) (is_row_below xs []) e).1 k
+row_below (x ∷ xs) (y ∷ ys) e zero = leb-true x y (and_parts (leb x y) (is_row_below xs ys) e).0
+row_below (x ∷ xs) (y ∷ ys) e (suc k) = row_below xs ys (and_parts (leb x y) (is_row_below xs ys) e).1 k
+
+-- no number of a row is above a bound
+abbrev row_most : ℕ → List ℕ → Bool
+row_most m [] = true
+row_most m (x ∷ xs) = leb x m && row_most m xs
+
+row_most_is : (m : ℕ) (xs : List ℕ) → row_most m xs ≡ true → (k : ℕ) → get_or xs k 0 ≤ m
+row_most_is m [] e k = omega arith
+row_most_is m (x ∷ xs) e zero = leb-true x m (and_parts (leb x m) (row_most m xs) e).0
+row_most_is m (x ∷ xs) e (suc k) = row_most_is m xs (and_parts (leb x m) (row_most m xs) e).1 k
 
 abbrev blank : CardLane
 blank = record { capacity = 0; target = 0; small = omega arith; within = omega arith }
@@ -29,20 +52,12 @@ narrow = record {
 abbrev two : ℕ → ℕ → List ℕ
 two x y = x ∷ y ∷ replicate 6 0
 
-small : (x y : ℕ) → x ≤ 3 → y ≤ 3 → Small (terms narrow) (two x y)
-small x y hx hy = ((refl, λ l. omega (arith, most l)), λ l h. omega (arith, most l))
-  where
-    most : (l : ℕ) → at (two x y) l ≤ 3
-    most zero = hx
-    most (suc zero) = hy
-    most (suc (suc l)) = omega (arith, at-zeros 6 l)
-
-more : (l : ℕ) → l < 2 → at (two 2 1) l ≤ at (two 2 3) l
-more zero h = omega arith
-more (suc zero) h = omega arith
-more (suc (suc l)) h = absurd (omega arith)
+small : (x y : ℕ) → row_most 3 (two x y) ≡ true → Small (terms narrow) (two x y)
+small x y e = ((refl, λ l. omega (arith, row_most_is 3 (two x y) e l)), λ l h. omega (arith, row_most_is 3 (two x y) e l))
 
 pub longest_queue_unlawful : LongestQueueUnlawful
 longest_queue_unlawful lawful =
-    let kept-one : min 1 2 ≤ 0 = lawful.substitutes narrow (two 2 1) (two 2 3) (small 2 1 (omega arith) (omega arith)) (small 2 3 (omega arith) (omega arith)) more 1 (omega arith) in
+    let kept-one : min 1 2 ≤ 0 =
+    lawful.substitutes narrow (two 2 1) (two 2 3) (small 2 1 refl) (small 2 3 refl) (λ l h. row_below (two 2 1) (two 2 3) refl l) 1 (omega arith)
+    in
     omega arith

@@ -1,5 +1,5 @@
 -- By shares the places of lanes that can have some stand in an order: parts of capacities are compared across.
-use Rattle.std.specs.Prelude.{◌≡◌, ℕ, ◌+◌, ◌*◌, ◌<◌, ◌≤◌}
+use Rattle.std.specs.Prelude.{◌≡◌, ℕ, ◌+◌, ◌*◌, ◌<◌, ◌≤◌, true, false, ◌&&◌, ◌||◌, ◌==◌, nat_lt}
 use Rattle.std.proofs.Common.{ap, inl, inr, arith}
 use Rattle.std.proofs.Math.Nat.{mul-lt-mul_of_pos_right}
 use Rattle.std.proofs.lemmas.Nat.{mul-le}
@@ -8,6 +8,20 @@ use Rattle.std.proofs.lemmas.Bool.Decides.{nat_tests}
 use Rattle.sharing.specs.Orders.{Ordered}
 use Rattle.sharing.specs.Rules.{at}
 use Rattle.sharing.specs.Shares.{weight, shares}
+
+-- what a comparison with its tie says
+stands : (a b g h : ℕ) → (nat_lt a b || (a == b && nat_lt g h)) ≡ true → (a ≤ b) × (a ≡ b → g < h)
+stands a b g h e = (grind (arith, nat_tests), λ t. grind (arith, nat_tests))
+
+stands_not : (a b g h : ℕ) → (nat_lt a b || (a == b && nat_lt g h)) ≡ false → (b ≤ a) × (a ≡ b → h ≤ g)
+stands_not a b g h e = (grind (arith, nat_tests), λ t. grind (arith, nat_tests))
+
+stands_so : (a b g h : ℕ) → a ≤ b → (a ≡ b → g < h) → (nat_lt a b || (a == b && nat_lt g h)) ≡ true
+stands_so a b g h le tie =
+    elim (cases_lt a b) [
+      | inl less ↦ grind (arith, nat_tests)
+      | inr more ↦ let t = tie (omega arith) in grind (arith, nat_tests)
+    ]
 
 -- three lanes with their places, targets and capacities: each comparison times the capacity of the third lane
 crossed : (k t q m u r n v z : ℕ) →
