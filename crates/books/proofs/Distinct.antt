@@ -1,5 +1,5 @@
 -- A list of distinct numbers below n has at most n of them: a ranking never wants a 257th place.
-use Rattle.std.proofs.Common.{◌≡◌, ℕ, ◌<◌, ◌≤◌, true, false, ◌||◌, eqb, List, [], ◌∷◌, ◌++◌, length, refl, ap, inl, inr, arith}
+use Rattle.std.proofs.Common.{◌≡◌, ℕ, suc, ◌<◌, ◌≤◌, true, false, ◌||◌, eqb, List, [], ◌∷◌, ◌++◌, length, refl, ap, inl, inr, arith}
 use Rattle.std.proofs.lemmas.Bool.Decides.{nat_tests as tells}
 use Rattle.std.proofs.lemmas.Bool.{cases_Bool}
 use Rattle.std.proofs.lemmas.Map.Steps.{length-le_from_distinct_below}
@@ -22,6 +22,11 @@ listed_below n v (x ∷ xs) b h = let t = listed_below n v xs in grind (arith, t
 
 pub distinct_short : (n : ℕ) (xs : List ℕ) → all_below n xs ≡ true → distinct xs ≡ true → length xs ≤ n
 distinct_short n xs b d = length-le_from_distinct_below xs n (is_distinct xs d) (λ v. listed_below n v xs b)
+
+-- numbers up to n without n itself are below n
+pub below_less : (n : ℕ) (xs : List ℕ) → all_below (suc n) xs ≡ true → has xs n ≡ false → all_below n xs ≡ true
+below_less n [] b h = refl
+below_less n (x ∷ xs) b h = let t = below_less n xs in grind (arith, tells)
 
 -- so a lot below n that is not in it finds room
 pub distinct_room : (n i : ℕ) (xs : List ℕ) → all_below n xs ≡ true → distinct xs ≡ true → i < n → has xs i ≡ false → length xs < n

@@ -417,7 +417,7 @@ told ws f e =
       λ p y h bad. found.none p y (omega (arith, place)) (has p y bad),
     )
 
-first_fault : (ws : List ℕ) → FirstFault ws (answered (opening ws))
+pub first_fault : (ws : List ℕ) → FirstFault ws (answered (opening ws))
 first_fault ws =
     (elim (walk unread 0 ws) as (λ t. walk unread 0 ws ≡ t → FirstFault ws (answered (book_of t))) [ Ok s ↦ λ e. clean ws s e | Err f ↦ λ e. told ws f e ]) refl
 

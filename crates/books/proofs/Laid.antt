@@ -19,11 +19,11 @@ shown_of f e [] i h = absurd (omega arith)
 shown_of f e (x ∷ xs) zero h = (x, refl)
 shown_of f e (x ∷ xs) (suc i) h = shown_of f e xs i (omega arith)
 
--- what holds of the ranking of each lane, and of none, holds of every ranking
-of_rankings : (P : List ℕ → Type 0) → P [] → ((x : Lane) → P (entry x).ranking) → (cards : List Card) (ls : List Lane) (l : ℕ) → P (ranking_of (contents_of cards ls) l)
-of_rankings P none each cards [] l = none
-of_rankings P none each cards (x ∷ ls) zero = each x
-of_rankings P none each cards (x ∷ ls) (suc l) = of_rankings P none each cards ls l
+-- what holds of the ranking of each lane in the book, and of none, holds of every ranking
+of_rankings : (P : List ℕ → Type 0) → P [] → (cards : List Card) (ls : List Lane) → ((l : ℕ) (x : Lane) → l < length ls → x ≡ get_or ls l x → P (entry x).ranking) → (l : ℕ) → P (ranking_of (contents_of cards ls) l)
+of_rankings P none cards [] each l = none
+of_rankings P none cards (x ∷ ls) each zero = each 0 x (omega arith) refl
+of_rankings P none cards (x ∷ ls) each (suc l) = of_rankings P none cards ls (λ k y h e. each (suc k) y (omega (arith, h)) e) l
 
 -- each fact of the type of Book, told of its contents
 pub book_laid : (b : Book) → Laid (contents b)
@@ -35,8 +35,8 @@ book_laid b = record {
   stands_on_card = λ l h. (b.ordered.lanes_stand l h).1;
   in_order = λ l h. (b.ordered.lanes_stand l h).2;
   all_lanes = b.ordered.all_lanes;
-  once = of_rankings (λ xs. distinct xs ≡ true) refl (λ x. x.once) b.cards.items b.lanes.items;
-  lots = of_rankings (λ xs. all_below 256 xs ≡ true) refl (λ x. x.below) b.cards.items b.lanes.items;
+  once = of_rankings (λ xs. distinct xs ≡ true) refl b.cards.items b.lanes.items (λ l x h e. x.once);
+  lots = of_rankings (λ xs. all_below 256 xs ≡ true) refl b.cards.items b.lanes.items (λ l x h e. x.below);
 }
 
 -- the lanes by their places, in whatever is laid out so

@@ -1,6 +1,6 @@
 -- A walk over the words of a sheet, by words, by records and as a whole.
 use Rattle.std.proofs.Common.{◌≡◌, ℕ, suc, ◌+◌, ◌-◌, ◌<◌, Bool, true, false, ◌||◌, eqb, leb, List, [], ◌∷◌, ◌++◌, length, get_or, take, drop, set, is_some, is_ok, Some, None, Ok, Err, Option, Result, sym, refl, ap, ◌∙◌, subst, arith, length-set}
-use Rattle.std.proofs.lemmas.List.{get_or-set_same, get_or_push, length_push, drop_more}
+use Rattle.std.proofs.lemmas.List.{get_or-set_same, get_or_push, length_push, drop_more, drop-drop}
 use Rattle.std.specs.Result.{result_ok}
 use Rattle.sheets.specs.declared.fault.Refusal.{Refusal}
 use Rattle.sheets.specs.declared.fault.Refusal.TheVariants.{Strange, Misplaced, TooMany, Unknown, Twice, Overtargeted}
@@ -31,6 +31,9 @@ accepted_outcome (Err y) s o = cc
 
 pub outcome_refused : {E : Type 0} (t : Result Reading E) (x : E) (s : Reading) → t ≡ Err x → Outcome t (Err x) s
 outcome_refused t x s e = subst (λ u. Outcome u (Err x) s) (sym e) refl
+
+pub outcome_accepted : {E : Type 0} (t : Result Reading E) (s : Reading) → t ≡ Ok s → Outcome t (Ok tt) s
+outcome_accepted t s e = subst (λ u. Outcome u (Ok tt) s) (sym e) (refl, refl)
 
 -- nested tests that came out accepted
 pub one_test : {A E : Type 0} (b : Bool) (e : E) (x s : A) → ◌≡◌ {A = Result A E} (elim b [ true ↦ Err e | false ↦ Ok x ]) (Ok s) → s ≡ x
@@ -116,6 +119,15 @@ progress_noted r s (Rank l) q a n =
     ap progress_of is ∙ entry_progress r.book (Some l) l (recorded_entry (lane_of r.book l)) ∙ sym then
 progress_noted r s (Next lot) q a n = lot_noted r s lot r.ranking n ∙ lot_then (progress_of r) q a
 
+-- an admitted word is taken as the book notes it
+noted_when : (t : Result Progress Refusal) (n : Result Reading Refusal) → is_ok t ≡ true → before t n ≡ n
+noted_when (Ok p) n e = refl
+noted_when (Err x) n e = absurd cc
+
+pub word_taken : (r : Reading) (w : ℕ) (b : BookWord) → book_word w ≡ Some b → is_ok (admits (progress_of r) b) ≡ true → taken r w ≡ noted r b
+word_taken r w b is admitted =
+    ap (judge r) is ∙ noted_when (admits (progress_of r) b) (noted r b) admitted
+
 accepted_then : (r u : Reading) (q : Progress) (o : Option BookWord) → elim o [ None ↦ None | Some b ↦ result_ok (admits (progress_of r) b) ] ≡ Some q →
     judge r o ≡ Ok u → progress_of u ≡ q
 accepted_then r u q None a n = cc
@@ -165,6 +177,14 @@ first_accepted r s place w ws pass e = let t = taken_from_walk (taken r w) place
 pub first_refused : (r : Reading) (place w : ℕ) (ws : List ℕ) (f : Fault) → walk r place (w ∷ []) ≡ Err f → walk r place (w ∷ ws) ≡ Err f
 first_refused r place w ws f e = refused_from_walk (taken r w) place f ws e
 
+-- the first word of a record that passes is accepted
+pub first_passes : (p : Progress) (w : ℕ) (ws : List ℕ) → passes p (w ∷ ws) ≡ true → is_some (accepts p w) ≡ true
+first_passes p w ws e =
+    (elim (accepts p w) as (λ o. elim o [ None ↦ false | Some q ↦ passes q ws ] ≡ true → is_some o ≡ true) [
+      | None ↦ λ h. h
+      | Some q ↦ λ h. refl
+    ]) e
+
 -- a walk over a record and what is behind it
 pub walk_append : (r : Reading) (place : ℕ) (xs ys : List ℕ) → walk r place (xs ++ ys) ≡ onto (place + length xs) ys (walk r place xs)
 walk_append r place [] ys = ap (λ n. walk r n ys) (omega arith)
@@ -202,8 +222,22 @@ record_refused r place (w ∷ ws) f e =
       | Ok q ↦ λ h. cc
     ]) e)
 
--- the first word that is left of a list decides, or the walk goes on behind it
+ok_from_part : (t : Result Progress Refusal) → is_some (result_ok t) ≡ true → is_ok t ≡ true
+ok_from_part (Ok p) e = refl
+ok_from_part (Err x) e = e
+
+accepted_word : (p : Progress) (o : Option BookWord) (b : BookWord) → o ≡ Some b → is_some (elim o [ None ↦ None | Some b ↦ result_ok (admits p b) ]) ≡ true → is_ok (admits p b) ≡ true
+accepted_word p o b is some = ok_from_part (admits p b) (subst (λ o. is_some (elim o [ None ↦ None | Some b ↦ result_ok (admits p b) ]) ≡ true) is some)
+
+-- an accepted word that the book refuses is what the walk refuses
+pub word_refused : (r : Reading) (place w : ℕ) (b : BookWord) (x : Refusal) → book_word w ≡ Some b → is_some (accepts (progress_of r) w) ≡ true → noted r b ≡ Err x → walk r place (w ∷ []) ≡ Err (fault x place)
+word_refused r place w b x is some e = ap (behind place []) (word_taken r w b is (accepted_word (progress_of r) (book_word w) b is some) ∙ e)
+
+-- the first word that is left of a list is accepted, and it decides or the walk goes on behind it
 module _ (ws : List ℕ) (i : ℕ) (h : i < length ws) where
+  pub at_passes : (p : Progress) → passes p (drop i ws) ≡ true → is_some (accepts p (get_or ws i 0)) ≡ true
+  at_passes p pass = first_passes p (get_or ws i 0) (drop (i + 1) ws) (subst (λ v. passes p v ≡ true) (drop_more ws i 0 h) pass)
+
   pub at_accepted : (r s : Reading) (place : ℕ) → passes (progress_of r) (drop i ws) ≡ true → walk r (place + i) (get_or ws i 0 ∷ []) ≡ Ok s →
       (passes (progress_of s) (drop (i + 1) ws) ≡ true) × (walk s (place + (i + 1)) (drop (i + 1) ws) ≡ walk r (place + i) (drop i ws))
   at_accepted r s place pass e =
@@ -213,6 +247,31 @@ module _ (ws : List ℕ) (i : ℕ) (h : i < length ws) where
 
   pub at_refused : (r : Reading) (place : ℕ) (f : Fault) → walk r (place + i) (get_or ws i 0 ∷ []) ≡ Err f → walk r (place + i) (drop i ws) ≡ Err f
   at_refused r place f e = ap (walk r (place + i)) (drop_more ws i 0 h) ∙ first_refused r (place + i) (get_or ws i 0) (drop (i + 1) ws) f e
+
+-- the walk over a record that is handed out, and over what is behind it
+module _ (r : Reading) (at : ℕ) (ws : List ℕ) (page : Page) (hand : Handed (progress_of r) at ws page) where
+  handed_walk : walk r at ws ≡ onto (at + length page.words) (drop (length page.words) ws) (walk r page.place page.words)
+  handed_walk =
+      ap (walk r at) (sym hand.front)
+      ∙ walk_append r at page.words (drop (length page.words) ws)
+      ∙ ap (λ n. onto (at + length page.words) (drop (length page.words) ws) (walk r n page.words)) (sym hand.place)
+
+-- a record of the sheet that is read, or at which the sheet is refused
+module _ (r : Reading) (sheet : List ℕ) (at : ℕ) (page : Page) (hand : Handed (progress_of r) at (drop at sheet) page) where
+  whole_walk : walk r at (drop at sheet) ≡ onto (at + length page.words) (drop (at + length page.words) sheet) (walk r page.place page.words)
+  whole_walk =
+      handed_walk r at (drop at sheet) page hand
+      ∙ ap (λ v. onto (at + length page.words) v (walk r page.place page.words)) (drop-drop (length page.words) at sheet)
+
+  pub record_read : (s : Reading) → walk r page.place page.words ≡ Ok s →
+      (record_progress (progress_of r) at (drop at sheet) ≡ progress_of s) × (walk s (at + length page.words) (drop (at + length page.words) sheet) ≡ walk r at (drop at sheet))
+  record_read s e = (
+    hand.progress ∙ sym (walk_progress r s page.place page.words hand.passing e),
+    sym (whole_walk ∙ ap (onto (at + length page.words) (drop (at + length page.words) sheet)) e),
+  )
+
+  pub record_stopped : (f : Fault) → walk r page.place page.words ≡ Err f → walk r at (drop at sheet) ≡ Err f
+  record_stopped f e = whole_walk ∙ ap (onto (at + length page.words) (drop (at + length page.words) sheet)) e
 
 -- a record that the reader hands out or refuses, where what it knows is what the book says: the walk reads the record and
 -- goes on behind it, or stops in it
@@ -224,21 +283,15 @@ module _ (r : Reading) (p : Progress) (at : ℕ) (ws : List ℕ) (known : p ≡ 
     pub part_handed : Handed (progress_of r) at ws (page part)
     part_handed = handed (progress_of r) at ws (page part) (ap (λ q. next_record q at ws) (sym known) ∙ sym e)
 
-    whole_walk : walk r at ws ≡ onto (at + length part.words.now) (drop (length part.words.now) ws) (walk r part.place part.words.now)
-    whole_walk =
-        ap (walk r at) (sym part_handed.front)
-        ∙ walk_append r at part.words.now (drop (length part.words.now) ws)
-        ∙ ap (λ n. onto (at + length part.words.now) (drop (length part.words.now) ws) (walk r n part.words.now)) (sym part_handed.place)
-
     pub part_read : (s : Reading) → walk r part.place part.words.now ≡ Ok s →
         (record_progress p at ws ≡ progress_of s) × (walk s (at + length part.words.now) (drop (length part.words.now) ws) ≡ walk r at ws)
     part_read s e = (
       ap (λ q. record_progress q at ws) known ∙ part_handed.progress ∙ sym (walk_progress r s part.place part.words.now part_handed.passing e),
-      sym (whole_walk ∙ ap (onto (at + length part.words.now) (drop (length part.words.now) ws)) e),
+      sym (handed_walk r at ws (page part) part_handed ∙ ap (onto (at + length part.words.now) (drop (length part.words.now) ws)) e),
     )
 
     pub part_stopped : (f : Fault) → walk r part.place part.words.now ≡ Err f → walk r at ws ≡ Err f
-    part_stopped f e = whole_walk ∙ ap (onto (at + length part.words.now) (drop (length part.words.now) ws)) e
+    part_stopped f e = handed_walk r at ws (page part) part_handed ∙ ap (onto (at + length part.words.now) (drop (length part.words.now) ws)) e
 
 -- what the whole sheet means, from its walk
 pub opening_refused : (sheet : List ℕ) (f : Fault) → walk unread 0 sheet ≡ Err f → opening sheet ≡ Err f
