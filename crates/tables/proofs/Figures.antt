@@ -2,7 +2,7 @@
 use Rattle.std.proofs.Common.{◌≡◌, ℕ, ◌+◌, ◌-◌, ◌*◌, ◌<◌, ◌≤◌, Bool, true, false, ◌&&◌, leb, List, [], ◌∷◌, length, Some, None, Option, sym, refl, ap, ◌∙◌, inl, inr, arith}
 use Rattle.std.proofs.lemmas.Bool.{le-leb, lt-leb, cases_Bool, cases_lt}
 use Rattle.std.proofs.lemmas.Bool.Decides.{nat_tests}
-use Rattle.tables.specs.Numbers.{digit, digits, value, go_on, number}
+use Rattle.tables.specs.Numbers.{digit, digit_of, digits, value, go_on, number}
 
 -- a number only grows
 value_grows : (v : ℕ) (bs : List ℕ) → v ≤ value v bs
@@ -13,19 +13,19 @@ abbrev told : Bool → ℕ → Option ℕ
 told t n = elim t [ true ↦ Some n | false ↦ None ]
 
 -- one digit more
-goes_on : (v b : ℕ) (bs : List ℕ) → digit b ≡ true → go_on v (b ∷ bs) ≡ go_on (v * 10 + (b - 48)) bs
+pub goes_on : (v b : ℕ) (bs : List ℕ) → digit b ≡ true → go_on v (b ∷ bs) ≡ go_on (v * 10 + (b - 48)) bs
 goes_on v b bs e = let rest = value (v * 10 + (b - 48)) bs in ap (λ t. told (t && digits bs && leb rest 65535) rest) e
 
-no_digit : (v b : ℕ) (bs : List ℕ) → digit b ≡ false → go_on v (b ∷ bs) ≡ None
+pub no_digit : (v b : ℕ) (bs : List ℕ) → digit b ≡ false → go_on v (b ∷ bs) ≡ None
 no_digit v b bs e = let rest = value (v * 10 + (b - 48)) bs in ap (λ t. told (t && digits bs && leb rest 65535) rest) e
 
-too_large : (v : ℕ) (bs : List ℕ) → 65535 < v → go_on v bs ≡ None
+pub too_large : (v : ℕ) (bs : List ℕ) → 65535 < v → go_on v bs ≡ None
 too_large v bs h =
     let grows = value_grows v bs in
     let large : leb (value v bs) 65535 ≡ false = lt-leb (value v bs) 65535 (omega arith) in
     ap (λ t. told (digits bs && t) (value v bs)) large ∙ (let d = digits bs in grind (arith, nat_tests))
 
-at_end : (v : ℕ) → v ≤ 65535 → go_on v [] ≡ Some v
+pub at_end : (v : ℕ) → v ≤ 65535 → go_on v [] ≡ Some v
 at_end v h = ap (λ t. told t v) (le-leb v 65535 h)
 
 -- digits behind a number that is begun, one after another: the first that is no digit or makes the number too large ends it
@@ -48,6 +48,21 @@ with_digits-go_on v (b ∷ bs) h =
             | inl large ↦ stopped (go_on v (b ∷ [])) bs (goes_on v b [] is ∙ too_large n [] large) ∙ sym (goes_on v b bs is ∙ too_large n bs large)
             | inr small ↦ ap (λ o. with_digits o bs) (goes_on v b [] is ∙ at_end n small) ∙ with_digits-go_on n bs small ∙ sym (goes_on v b bs is)
           ]
+    ]
+
+-- a digit and its value, and a byte that is none
+pub digit_known : (b d : ℕ) → digit_of b ≡ Some d → (digit b ≡ true) × (d ≡ b - 48)
+digit_known b d e =
+    elim (cases_Bool (digit b)) [
+      | inl t ↦ let is : digit_of b ≡ Some (b - 48) = ap (λ x. told x (b - 48)) t in (t, cc)
+      | inr f ↦ let is : digit_of b ≡ None = ap (λ x. told x (b - 48)) f in absurd cc
+    ]
+
+pub digit_none : (b : ℕ) → digit_of b ≡ None → digit b ≡ false
+digit_none b e =
+    elim (cases_Bool (digit b)) [
+      | inl t ↦ let is : digit_of b ≡ Some (b - 48) = ap (λ x. told x (b - 48)) t in absurd cc
+      | inr f ↦ f
     ]
 
 pub some_digits : (w : List ℕ) → 0 < length w → number w ≡ go_on 0 w
