@@ -4,7 +4,7 @@ ghost use Rattle.tables.specs.Told.{tells, kept_at};
 use rows::row::Row;
 
 // What is asked of both rules, as each answers it.
-#[derive(Clone, Copy, PartialEq, Eq, Debug)]
+#[derive(Clone, Copy, PartialEq, Eq)]
 pub struct ByRule<T> {
     pub turns: T,
     pub shares: T,

@@ -47,6 +47,16 @@ impl fmt::Display for Kept {
     }
 }
 
+// The same by its name and fields.
+impl fmt::Debug for Kept {
+    fn fmt<W: fmt::Write>(&self, f: &mut fmt::Formatter<W>) -> fmt::Result {
+        f.debug_struct("Kept")
+            .field("turns", &self.turns)
+            .field("shares", &self.shares)
+            .finish()
+    }
+}
+
 impl fmt::Display for Move {
     ghost output = { λ m. Some (move_shown m) };
 
@@ -64,6 +74,16 @@ impl fmt::Display for Gain {
         let turns = yes_or_no(self.turns);
         let shares = yes_or_no(self.shares);
         write!(f, "turns gain {turns}, shares gain {shares}")
+    }
+}
+
+// The same by its name and fields.
+impl fmt::Debug for Gain {
+    fn fmt<W: fmt::Write>(&self, f: &mut fmt::Formatter<W>) -> fmt::Result {
+        f.debug_struct("Gain")
+            .field("turns", &self.turns)
+            .field("shares", &self.shares)
+            .finish()
     }
 }
 
