@@ -1,4 +1,4 @@
-ghost use Rattle.std.specs.Prelude.{◌≡◌, ◌^◌, ◌<◌};
+ghost use Rattle.std.specs.Prelude.{◌≡◌, ◌^◌, ◌<◌, ◌≤◌};
 ghost use Rattle.sharing.specs.Cards.{terms};
 ghost use Rattle.sharing.specs.Shares.{shares, weight};
 ghost use Rattle.sharing.specs.ByShares.{shares_ordered};
@@ -18,6 +18,7 @@ pub type ShareRule = LineUp<Shares>;
 fn weigh(card: &Card, place: Place, beside: usize) -> u64
     ensures value { result ≡ weight (terms card.now) place.lane place.number beside }
     ensures small { result < 2 ^ 45 }
+    ensures of_lots { place.number ≤ 65536 → result < 2 ^ 31 }
 {
     place.number as u64 * card.capacity_of(beside) as u64
         + card.target_of(beside) as u64 * card.capacity_of(place.lane) as u64

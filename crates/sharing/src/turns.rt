@@ -1,4 +1,4 @@
-ghost use Rattle.std.specs.Prelude.{◌≡◌, ◌+◌, ◌^◌, ◌<◌};
+ghost use Rattle.std.specs.Prelude.{◌≡◌, ◌+◌, ◌^◌, ◌<◌, ◌≤◌};
 ghost use Rattle.sharing.specs.Cards.{terms};
 ghost use Rattle.sharing.specs.Rules.{at};
 ghost use Rattle.sharing.specs.Turns.{turns};
@@ -19,6 +19,7 @@ pub type TurnRule = LineUp<Turns>;
 fn beyond_target(card: &Card, place: Place, beside: usize) -> u64
     ensures value { result ≡ place.number + at (terms card.now).targets beside }
     ensures small { result < 2 ^ 33 }
+    ensures of_lots { place.number ≤ 65536 → result < 2 ^ 31 }
 {
     place.number as u64 + card.target_of(beside) as u64
 }
