@@ -53,7 +53,7 @@ impl Lines {
     pub(crate) fn of(&self, lot: usize) -> Line
         ensures { result ≡ slice_index_or self.now lot Line.Absent }
     {
-        self.lines.get(lot).copied().unwrap_or(Line::Absent)
+        self.lines.get(lot).map_or(Line::Absent, |line| *line)
     }
 
     // Rewrites a lot's line by what happened to the lot; the list is the lot's.
