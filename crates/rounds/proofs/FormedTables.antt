@@ -1,24 +1,39 @@
--- What the type of a table says, as what every round has.
+-- What the types of a table and of a round say, as what every round has.
+use Rattle.std.proofs.Common.{◌≡◌, sym, subst}
+use Rattle.books.specs.Laid.{Laid}
 use Rattle.books.proofs.Laid.{book_laid}
 use Rattle.rounds.specs.declared.table.Table.{Table}
 use Rattle.boards.specs.Boards.{Board}
 use Rattle.boards.specs.Formed.{Formed}
 use Rattle.rounds.specs.Lots.{RoundFacts}
+use Rattle.rounds.specs.OpenRounds.{OpenRound}
 use Rattle.rounds.specs.Tables.{board}
 use Rattle.boards.proofs.CallsRun.{held_known}
 
-pub formed : (t : Table) → Formed (board t)
-formed t = record {
-  laid = book_laid t.book;
-  every_line = t.facts.lines_fit.0;
-  every_list = t.facts.lists_lawful.0;
-  known = t.facts.lists_lawful.1;
-  once = t.facts.lists_lawful.2;
-  few = t.facts.lists_lawful.3;
-  fit_lists = t.facts.lines_fit.1;
-  fits = record { ranked = λ l i k. t.facts.held_ranked l i; capacity = t.facts.lanes_within; store = t.facts.sheds_within };
-  counted = t.facts.counted;
+-- a board with these facts has, where its book is laid out, all that every round has
+formed_with : (s : Board) → Laid s.book → RoundFacts s → Formed s
+formed_with s laid f = record {
+  laid = laid;
+  every_line = f.lines_fit.0;
+  every_list = f.lists_lawful.0;
+  known = f.lists_lawful.1;
+  once = f.lists_lawful.2;
+  few = f.lists_lawful.3;
+  fit_lists = f.lines_fit.1;
+  fits = record { ranked = λ l i k. f.held_ranked l i; capacity = f.lanes_within; store = f.sheds_within };
+  counted = f.counted;
 }
+
+pub formed : (t : Table) → Formed (board t)
+formed t = formed_with (board t) (book_laid t.book) t.facts
+
+-- the book of every round is laid out
+pub open_laid : {R : Type 0} (r : OpenRound R) → Laid r.board.book
+open_laid r = subst Laid (sym r.its_book) (book_laid r.book)
+
+-- so its board has all that every round has
+pub open_formed : {R : Type 0} (r : OpenRound R) → Formed r.board
+open_formed r = formed_with r.board (open_laid r) r.facts
 
 pub facts : (s : Board) → Formed s → RoundFacts s
 facts s v = record {

@@ -22,14 +22,15 @@ pub struct Round<R: SharingRule> {
     rule: R,
 }
 
-// Clauses see what the table says, with what it has in every round, and the rule.
+// Clauses see the book, what the table says, with what it has in every round, and the rule.
 impl<R: SharingRule> Model for Round<R> {
+    ghost use Rattle.std.specs.Prelude.{refl};
     ghost use Rattle.rounds.specs.OpenRounds.{OpenRound};
     ghost use Rattle.rounds.specs.Tables.{board};
 
     ghost Value = { OpenRound R };
 
-    ghost view = { λ r. record { board = board r.table; facts = r.table.facts; rule = r.rule } };
+    ghost view = { λ r. record { book = r.table.book; board = board r.table; its_book = refl; facts = r.table.facts; rule = r.rule } };
 }
 
 impl<R: SharingRule> Round<R> {
