@@ -1,12 +1,14 @@
 -- Every accepted slip enters one lot more.
-use Rattle.std.proofs.Common.{◌≡◌, ℕ, zero, suc, ◌+◌, ◌<◌, false, count_by, add-zero, zero-add, cond, List, [], ◌∷◌, length, set, is_some, Some, Ok, Err, Option, Result, sym, refl, ap, ◌∙◌, subst, arith, length-set}
+use Rattle.std.proofs.Common.{◌≡◌, ℕ, zero, suc, ◌+◌, ◌<◌, false, count_by, add-zero, zero-add, cond, List, [], ◌∷◌, length, set, is_some, Some, None, Ok, Err, Option, Result, sym, refl, ap, ◌∙◌, subst, arith, length-set}
 use Rattle.std.proofs.lemmas.List.Sums.{sum_by-cons}
 use Rattle.std.specs.List.{range_with_len}
+use Rattle.std.specs.Option.{option_map}
 use Rattle.sheets.specs.declared.fault.Fault.{Fault}
 use Rattle.books.specs.Opening.{opening, left}
+use Rattle.boards.specs.declared.wishes.Wishes.{Wishes}
 use Rattle.boards.specs.Boards.{Board, begun, slip_of, entered}
 use Rattle.boards.specs.Calls.{entered_lots}
-use Rattle.boards.specs.Slips.{Lists, list_at}
+use Rattle.boards.specs.Slips.{Lists, list_at, list_of}
 use Rattle.boards.proofs.FormedEnters.{entering_ok}
 use Rattle.days.specs.Input.{Day, day_of}
 use Rattle.intake.specs.Slips.{cut, in_day_at, enter_all, LotForEachSlip}
@@ -54,6 +56,11 @@ slips_counted bs d place day (Ok s) e =
     λ other is.
     let same : d ≡ other = cc in
     subst (λ (x : Day). entered_lots s.lists ≡ length (cut x.slips)) same (omega (arith, count))
+
+-- a list that is handed out is there
+pub list_is : (o : Option Wishes) (q : Option (List ℕ)) → option_map list_of o ≡ q → is_some q ≡ is_some o
+list_is None q e = ap is_some (sym e)
+list_is (Some w) q e = ap is_some (sym e)
 
 -- the lots from one on that have a list
 listed_from : (ls os : Lists) (a : ℕ) → ((i : ℕ) → list_at ls (a + i) ≡ list_at os i) → count_by (λ lot. is_some (list_at ls lot)) (range_with_len a (length os)) ≡ entered_lots os

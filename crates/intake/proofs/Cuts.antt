@@ -1,5 +1,5 @@
 -- A run of words and its slips, one at a time.
-use Rattle.std.proofs.Common.{◌≡◌, ℕ, suc, ◌≤◌, Bool, true, false, eqb, List, [], ◌∷◌, length, take, drop, Some, sym, refl, ap, ◌∙◌, subst, arith, length-take}
+use Rattle.std.proofs.Common.{◌≡◌, ℕ, suc, ◌≤◌, Bool, true, false, eqb, List, [], ◌∷◌, length, take, drop, Some, None, sym, refl, ap, ◌∙◌, subst, arith, length-take}
 use Rattle.sheets.specs.Records.{Page, slip_length, next_slip}
 use Rattle.sheets.specs.Words.{kind}
 use Rattle.intake.specs.Slips.{in_front, cut}
@@ -42,3 +42,8 @@ next_slip_is at (w ∷ ws) p e =
       some = omega arith;
       slips = cut_first w ws ∙ ap (λ (n : ℕ). (w ∷ take k ws) ∷ cut (drop n ws)) (sym long);
     })
+
+-- no slip is handed out only where none is left to cut
+pub no_slip : (at : ℕ) (ws : List ℕ) → next_slip at ws ≡ None → cut ws ≡ []
+no_slip at [] e = refl
+no_slip at (w ∷ ws) e = cc

@@ -44,3 +44,7 @@ facts s v = record {
   sheds_within = v.fits.store;
   counted = v.counted;
 }
+
+-- the same of a board that equals one
+pub facts_of : (s t : Board) → s ≡ t → Formed t → RoundFacts s
+facts_of s t e v = facts s (subst Formed (sym e) v)
