@@ -1,3 +1,4 @@
+use std::test::Fail;
 use tables::answer::{Gain, Kept};
 use tables::complaint::Complaint;
 use tables::question::Question;
@@ -108,4 +109,15 @@ fn a_complaint_has_a_number_and_may_name_a_lane(rt: HostRuntime) {
     assert_eq!(rt; Complaint::NinthLane.lane(), None);
     assert_eq!(rt; Complaint::WrongLane { lane: 7 }.number(), 6);
     assert_eq!(rt; Complaint::WrongLane { lane: 7 }.lane(), Some(7));
+}
+
+#[test]
+fn what_is_kept_and_gained_shows_its_name(rt: HostRuntime) -> Result<(), Fail> {
+    let kept = kept(b"4 4/0/4 2/0/2", 0);
+    let shown = format!(in rt.alloc(); "{kept:?}")?;
+    assert_eq!(rt; shown.as_str(), "Some(Kept { turns: 2, shares: 3 })");
+    let gain = gain(b"4 4/0/3 2/0/1 0>1");
+    let shown = format!(in rt.alloc(); "{gain:?}")?;
+    assert_eq!(rt; shown.as_str(), "Some(Gain { turns: true, shares: false })");
+    Ok(())
 }
