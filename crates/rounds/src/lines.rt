@@ -49,7 +49,8 @@ impl Lines {
         }
     }
 
-    // The line of a lot; absent above 255.
+    // The line of a lot; absent above 255. By map_or and not copied(), which reads the whole line where a search needs its
+    // tag alone.
     pub(crate) fn of(&self, lot: usize) -> Line
         ensures { result ≡ slice_index_or self.now lot Line.Absent }
     {
